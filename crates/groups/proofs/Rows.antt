@@ -1,0 +1,99 @@
+-- The rows of the table: which test of `reading` holds when, over any width, and what is then answered.
+use Prim.Native.Nat.{ℕ, zero, suc, _+_, _-_, _≤_, _<_}
+use mathlib.Core.Path.{_≡_, refl, ap, sym, _∙_}
+use mathlib.Core.List.{List}
+use mathlib.Core.Bool.{Bool, true, false, not}
+use native.Mathlib.Omega.{arith}
+use borrow.Author.Tests.{lt-ltb, le-ltb, le-leb, lt-leb, eq-eqb, ne-eqb}
+use lib.Dec.{leb, ltb, eqb}
+use lib.ListN.{length, getD, take, drop}
+use Rattle.words.specs.Answer.{pick, both, Answer, gives, refused}
+use Rattle.words.proofs.Cases.{by-order}
+use Rattle.groups.specs.Group.{run}
+use Rattle.groups.proofs.Run.{run-within}
+use Rattle.groups.specs.Width.{Width, runsOut, tooLarge, tooMany, reading, read}
+
+both-false : (t : Bool) → both t false ≡ false
+both-false true = refl
+both-false false = refl
+
+module _ {A : Type 0} (w : Width A) where
+  runs-out : (l : List ℕ) → run l ≡ length l → run l < w .most → runsOut w l ≡ true
+  unfolding runsOut
+  runs-out l e h = rw (eq-eqb (run l) (length l) e, lt-ltb (run l) (w .most) h)
+
+  closed-not-out : (l : List ℕ) → run l < length l → runsOut w l ≡ false
+  unfolding runsOut
+  closed-not-out l h =
+      let ne : run l ≡ length l → ⊥ = λ e. omega arith in
+      rw (ne-eqb (run l) (length l) ne)
+
+  long-not-out : (l : List ℕ) → w .most ≤ run l → runsOut w l ≡ false
+  unfolding runsOut
+  long-not-out l h = rw (le-ltb (run l) (w .most) h) (both-false (eqb (run l) (length l)))
+
+  too-large : (l : List ℕ) → w .most ≤ run l + 1 → w .allowed (getD l (w .most - 1) 0) ≡ false → tooLarge w l ≡ true
+  unfolding tooLarge
+  too-large l h e = rw (le-leb (w .most) (run l + 1) h, e)
+
+  short-not-large : (l : List ℕ) → run l + 1 < w .most → tooLarge w l ≡ false
+  unfolding tooLarge
+  short-not-large l h = rw (lt-leb (w .most) (run l + 1) h)
+
+  allowed-not-large : (l : List ℕ) → w .allowed (getD l (w .most - 1) 0) ≡ true → tooLarge w l ≡ false
+  unfolding tooLarge
+  allowed-not-large l e = rw e (both-false (leb (w .most) (run l + 1)))
+
+  too-many : (l : List ℕ) → 0 < run l → w .extra (getD l (run l - 1) 0) (getD l (run l) 0) ≡ true → tooMany w l ≡ true
+  unfolding tooMany
+  too-many l h e = rw (lt-ltb 0 (run l) h, e)
+
+  first-not-many : (l : List ℕ) → run l ≡ 0 → tooMany w l ≡ false
+  unfolding tooMany
+  first-not-many l e = rw (le-ltb 0 (run l) (omega arith))
+
+  needed-not-many : (l : List ℕ) → w .extra (getD l (run l - 1) 0) (getD l (run l) 0) ≡ false → tooMany w l ≡ false
+  unfolding tooMany
+  needed-not-many l e = rw e (both-false (ltb 0 (run l)))
+
+  not-many : (l : List ℕ) → (0 < run l → w .extra (getD l (run l - 1) 0) (getD l (run l) 0) ≡ false) → tooMany w l ≡ false
+  not-many l f = by-order 0 (run l) (λ h. needed-not-many l (f h)) (λ h. first-not-many l (omega arith))
+
+  not-large : (l : List ℕ) → run l + 1 ≤ w .most → (run l + 1 ≡ w .most → w .allowed (getD l (run l) 0) ≡ true) → tooLarge w l ≡ false
+  not-large l h f =
+      by-order (run l + 1) (w .most) (λ s. short-not-large l s)
+      (λ s. let e : run l + 1 ≡ w .most = omega arith in let i : w .most - 1 ≡ run l = omega arith in allowed-not-large l (rw i (f e)))
+
+  -- row 1: fewer bytes than the most, and each is 128 or more
+  pub row-end : (l : List ℕ) → run l ≡ length l → run l < w .most → reading w l ≡ refused 1
+  unfolding reading
+  row-end l e h = rw (runs-out l e h)
+
+  -- row 2: the byte at the greatest length is there, all earlier are 128 or more, and it is not allowed
+  pub row-large : (l : List ℕ) → w .most ≤ length l → w .most ≤ run l + 1 → w .allowed (getD l (w .most - 1) 0) ≡ false
+    → reading w l ≡ refused 2
+  unfolding reading
+  row-large l there h e =
+      let out : runsOut w l ≡ false = by-order (run l) (length l) (λ c. closed-not-out l c) (λ c. long-not-out l (omega (arith, run-within l))) in
+      rw (out, too-large l h e)
+
+  module _ (l : List ℕ) (ends : run l < length l) (fits : run l + 1 ≤ w .most)
+    (last : run l + 1 ≡ w .most → w .allowed (getD l (run l) 0) ≡ true) where
+    -- row 3: the number ends, not too large, and its last byte isn't the first and is one too many
+    pub row-many : 0 < run l → w .extra (getD l (run l - 1) 0) (getD l (run l) 0) ≡ true → reading w l ≡ refused 3
+    unfolding reading
+    row-many h e = rw (closed-not-out l ends, not-large l fits last, too-many l h e)
+
+    -- no row: the number
+    pub row-number : (0 < run l → w .extra (getD l (run l - 1) 0) (getD l (run l) 0) ≡ false)
+      → reading w l ≡ gives (w .value (take (run l + 1) l), run l + 1)
+    unfolding reading
+    row-number f = rw (closed-not-out l ends, not-large l fits last, not-many l f)
+
+  pub read-past : (s : List ℕ) (at : ℕ) → length s < at → read w s at ≡ refused 4
+  unfolding read
+  read-past s at h = rw (lt-ltb (length s) at h)
+
+  pub read-from : (s : List ℕ) (at : ℕ) → at ≤ length s → read w s at ≡ reading w (drop at s)
+  unfolding read
+  read-from s at h = rw (le-ltb (length s) at h)

@@ -1,0 +1,80 @@
+-- Laws of `run`, of groups and of digits.
+use Prim.Native.Nat.{ℕ, zero, suc, _+_, _-_, _*_, _%_, _^_, _≤_, _<_}
+use mathlib.Core.Path.{_≡_, refl, ap, sym, _∙_}
+use mathlib.Core.List.{List, [], _∷_, _++_}
+use mathlib.Core.Bool.{Bool, true, false}
+use native.Mathlib.Nat.{mul-assoc, pow-succ', pow-le-pow-right}
+use native.Mathlib.Numerals.{add-one}
+use native.Mathlib.Omega.{arith}
+use borrow.Author.Tests.{lt-ltb, le-ltb}
+use lib.ListN.{length, getD, take}
+use lib.Seq.{take-suc, length-take-le}
+use lib.Dec.{ltb}
+use Rattle.words.specs.Answer.{pick}
+use Rattle.words.proofs.Cases.{by-order}
+use Rattle.groups.specs.Group.{Bytes, High, run, Group, one, more, digits}
+
+pub run-low : (b : ℕ) (s : List ℕ) → b < 128 → run (b ∷ s) ≡ 0
+unfolding run
+run-low b s h = rw (lt-ltb b 128 h)
+
+pub run-high : (b : ℕ) (s : List ℕ) → 128 ≤ b → run (b ∷ s) ≡ suc (run s)
+unfolding run
+run-high b s h = rw (le-ltb b 128 h)
+
+pub run-within : (s : List ℕ) → run s ≤ length s
+unfolding run
+run-within [] = omega arith
+run-within (b ∷ s) =
+    let ih : run s ≤ length s = run-within s in
+    by-order b 128 (λ h. rw (run-low b s h) (omega arith)) (λ h. rw (run-high b s h) (omega arith))
+
+-- the bytes that `run` counts are 128 or more
+pub in-run : (s : List ℕ) (i : ℕ) → i < run s → 128 ≤ getD s i 0
+unfolding run
+in-run [] i h = absurd (omega arith)
+in-run (b ∷ s) zero h =
+    by-order b 128 (λ l. let e : run (b ∷ s) ≡ 0 = run-low b s l in absurd (omega arith)) (λ l. l)
+in-run (b ∷ s) (suc i) h =
+    by-order b 128 (λ l. let e : run (b ∷ s) ≡ 0 = run-low b s l in absurd (omega arith))
+    (λ l. let e : run (b ∷ s) ≡ suc (run s) = run-high b s l in in-run s i (omega arith))
+
+-- and the one behind them is below
+pub at-run : (s : List ℕ) → run s < length s → getD s (run s) 0 < 128
+unfolding run
+at-run [] h = absurd (omega arith)
+at-run (b ∷ s) h =
+    by-order b 128 (λ l. rw (run-low b s l) l)
+    (λ l. let e : run (b ∷ s) ≡ suc (run s) = run-high b s l in rw e (at-run s (omega arith)))
+
+-- one byte more of 128 or more
+pub run-more : (s : List ℕ) (i : ℕ) → i ≤ run s → i < length s → 128 ≤ getD s i 0 → suc i ≤ run s
+run-more s i le in-s high =
+    by-order i (run s) (λ l. l)
+    (λ l. let e : run s ≡ i = omega arith in let f : getD s (run s) 0 < 128 = at-run s (omega arith) in
+    let g : getD s i 0 < 128 = rw e at f in absurd (omega arith))
+
+-- the first byte below 128
+pub run-ends : (s : List ℕ) (i : ℕ) → i ≤ run s → getD s i 0 < 128 → run s ≡ i
+run-ends s i le low = by-order i (run s) (λ l. let f : 128 ≤ getD s i 0 = in-run s i l in absurd (omega arith)) (λ l. omega arith)
+
+-- the digits, a byte more
+pub digits-more : (g : List ℕ) (b : ℕ) → digits (g ++ b ∷ []) ≡ digits g + 128 ^ length g * (b % 128)
+unfolding digits
+digits-more [] b = omega arith
+digits-more (c ∷ g) b =
+    rw (digits-more g b)
+    (omega (arith, ap (λ (n : ℕ). n * (b % 128)) (pow-succ' 128 (length g)), mul-assoc 128 (128 ^ length g) (b % 128)))
+
+pub digits-below : (g : List ℕ) → digits g < 128 ^ length g
+unfolding digits
+digits-below [] = omega arith
+digits-below (b ∷ g) = let ih : digits g < 128 ^ length g = digits-below g in omega (arith, pow-succ' 128 (length g))
+
+pub digits-take : (l : List ℕ) (i : ℕ) → i < length l → digits (take (i + 1) l) ≡ digits (take i l) + 128 ^ i * (getD l i 0 % 128)
+digits-take l i h =
+    let e : length (take i l) ≡ i = length-take-le i l (omega arith) in
+    rw (add-one, take-suc l i 0 h, digits-more (take i l) (getD l i 0), e)
+
+pub pow-up : (i j : ℕ) → i ≤ j → 128 ^ i ≤ 128 ^ j
+pow-up i j h = pow-le-pow-right (omega arith) h

@@ -1,0 +1,101 @@
+-- The walk from a start on: what its loop holds, and what its answers say of a reading at any width of at most ten bytes.
+use Prim.Native.Nat.{ℕ, zero, suc, _+_, _-_, _*_, _%_, _^_, _≤_, _<_}
+use mathlib.Core.Path.{_≡_, refl, ap, sym, _∙_}
+use mathlib.Core.List.{List, [], _∷_, _++_}
+use mathlib.Core.Bool.{Bool, true, false, not}
+use native.Mathlib.Nat.{add-comm, mul-comm, mul-assoc, pow-succ', mul-le-mul-left, mod-lt}
+use native.Mathlib.Numerals.{add-one}
+use native.Mathlib.Omega.{arith}
+use borrow.Author.Tests.{lt-ltb, le-ltb, le-leb, lt-leb, eq-eqb, ne-eqb}
+use lib.Dec.{leb, ltb, eqb}
+use lib.ListN.{length, getD, take, drop, length-take, length-drop}
+use lib.Seq.{getD-drop, take-suc, length-take-le}
+use Rattle.words.specs.Answer.{pick, both, Answer, gives, refused}
+use Rattle.words.proofs.Cases.{by-order}
+use Rattle.groups.specs.Group.{run, digits}
+use Rattle.groups.specs.Width.{Width, reading, read}
+use Rattle.groups.specs.Promise.{walking, walked, Walks}
+use Rattle.groups.specs.declared.reading.Walked.{Walked}
+use Rattle.groups.specs.declared.reading.Walked.the-variants.{Past, Open, Long, Closed}
+use Rattle.groups.proofs.Run.{run-within, run-more, run-ends, at-run, digits-take, digits-below, pow-up}
+
+-- what the loop has done: the high bytes passed, what they sum to, and what the next one weighs
+pub record Going (s : List ℕ) (at place high sum weight : ℕ) : Type 0 where
+  pub here : place ≡ at + high
+  pub within : place ≤ length s
+  pub few : high ≤ 9
+  pub passed : high ≤ run (drop at s)
+  pub weighs : weight ≡ 128 ^ high
+  pub sums : sum ≡ digits (take high (drop at s))
+
+module _ (s : List ℕ) (at : ℕ) where
+  pub byte : (place high : ℕ) → place ≡ at + high → getD (drop at s) high 0 ≡ getD s place 0
+  byte place high e = rw (e, getD-drop at s high 0)
+
+  pub room : (place high : ℕ) → place ≡ at + high → place < length s → high < length (drop at s)
+  room place high e h = rw (length-drop at s) (omega arith)
+
+  pub starts : at ≤ length s → Going s at at 0 0 1
+  unfolding digits
+  starts h = record { here = omega arith; within = h; few = omega arith; passed = omega arith; weighs = refl; sums = refl }
+
+  module _ {place high sum weight : ℕ} (g : Going s at place high sum weight) where
+    -- the sum is below the weight, so that seven bits more stay below 128 times it
+    pub sum-below : sum < weight
+    sum-below =
+        let e : length (take high (drop at s)) ≡ high = length-take-le high (drop at s) (omega (arith, run-within (drop at s))) in
+        let h : digits (take high (drop at s)) < 128 ^ high = rw e at (digits-below (take high (drop at s))) in
+        omega arith
+
+    pub part-fits : (d : ℕ) → high < 9 → d < 128 → sum + weight * d < 2 ^ 63
+    part-fits d h l =
+        let m : weight * d ≤ weight * 127 = mul-le-mul-left weight (omega arith) in
+        let p : 128 ^ suc high ≤ 128 ^ 9 = pow-up (suc high) 9 (omega arith) in
+        omega (arith, sum-below, pow-succ' 128 high, mul-comm weight 127)
+
+    pub weight-fits : high < 9 → weight * 128 < 2 ^ 64
+    weight-fits h =
+        let p : 128 ^ suc high ≤ 128 ^ 9 = pow-up (suc high) 9 (omega arith) in
+        omega (arith, pow-succ' 128 high)
+
+    module _ (there : place < length s) where
+      byte-there : getD (drop at s) high 0 ≡ getD s place 0
+      byte-there = byte place high (g .here)
+
+      pub goes-on : 128 ≤ getD s place 0 → high < 9
+        → Going s at (place + 1) (high + 1) (sum + weight * (getD s place 0 % 128)) (weight * 128)
+      goes-on h f = record {
+          here = omega arith;
+          within = omega arith;
+          few = omega arith;
+          passed = rw add-one (run-more (drop at s) high (g .passed) (room place high (g .here) there) (rw byte-there h));
+          weighs = rw (add-one, g .weighs) (omega (arith, pow-succ' 128 high));
+          sums =
+              rw (digits-take (drop at s) high (room place high (g .here) there), byte-there, ← (g .sums), ← (g .weighs)) }
+
+      pub closes : getD s place 0 < 128 → Walks s at (Closed sum weight high (getD s place 0))
+      unfolding walked walking
+      closes h =
+          let e : run (drop at s) ≡ high = run-ends (drop at s) high (g .passed) (rw byte-there h) in
+          let ne : high ≡ length (drop at s) → ⊥ = λ q. omega (arith, room place high (g .here) there) in
+          record { is =
+              rw (le-ltb (length s) at (omega arith), e, lt-leb 10 high (omega arith), ne-eqb high (length (drop at s)) ne, byte-there,
+              ← (g .sums), ← (g .weighs)) }
+
+      pub overruns : 128 ≤ getD s place 0 → 8 < high → Walks s at Long
+      unfolding walked walking
+      overruns h f =
+          let e : suc high ≤ run (drop at s) =
+              run-more (drop at s) high (g .passed) (room place high (g .here) there) (rw byte-there h) in
+          record { is = rw (le-ltb (length s) at (omega arith), le-leb 10 (run (drop at s)) (omega arith)) }
+
+    pub runs-dry : length s ≤ place → Walks s at (Open high)
+    unfolding walked walking
+    runs-dry h =
+        let n : length (drop at s) ≡ high = length-drop at s ∙ omega arith in
+        let e : run (drop at s) ≡ high = omega (arith, run-within (drop at s)) in
+        record { is = rw (le-ltb (length s) at (omega arith), e, lt-leb 10 high (omega arith), eq-eqb high (length (drop at s)) (omega arith)) }
+
+  pub past : length s < at → Walks s at Past
+  unfolding walked
+  past h = record { is = rw (lt-ltb (length s) at h) }

@@ -1,0 +1,28 @@
+-- How bytes spell a number, seven bits a byte, lowest first, all but the last with 128 added. Below zero each seven bits are
+-- those of the two's complement: with m for -v-1, 127 less those of m.
+--
+--   say below d          seven bits, or below zero their complement
+--   groups below n m     n bytes that spell m
+--   spell below small m  as many bytes as it takes until what is left is below small
+use Prim.Native.Nat.{ℕ, zero, suc, _+_, _-_, _/_, _%_}
+use mathlib.Core.List.{List, [], _∷_}
+use mathlib.Core.Bool.{Bool, true, false}
+use lib.Dec.{ltb}
+
+abbrev pub say : Bool → ℕ → ℕ
+say false d = d
+say true d = 127 - d
+
+unfoldable pub groups : Bool → ℕ → ℕ → List ℕ
+groups below zero m = []
+groups below (suc zero) m = say below (m % 128) ∷ []
+groups below (suc (suc n)) m = (128 + say below (m % 128)) ∷ groups below (suc n) (m / 128)
+
+-- the first number bounds how many bytes there can be: m itself is enough
+unfoldable pub spellings : Bool → ℕ → ℕ → ℕ → List ℕ
+spellings below small zero m = say below m ∷ []
+spellings below small (suc n) m =
+    elim (ltb m small) [ true ↦ say below m ∷ [] | false ↦ (128 + say below (m % 128)) ∷ spellings below small n (m / 128) ]
+
+unfoldable pub spell : Bool → ℕ → ℕ → List ℕ
+spell below small m = spellings below small m m

@@ -1,0 +1,27 @@
+-- What is answered, in document 01's own numbers and values.
+--
+--   pick         one of two things, by a test
+--   both         two tests hold
+--   Answer A     what was asked for, or a refusal by its number
+--   meaning      what a writer's answer says
+use Prim.Native.Nat.{ℕ}
+use mathlib.Core.Bool.{Bool, true, false}
+use Rattle.words.specs.Refusal.{numberOf}
+use Rattle.words.specs.declared.Written.{Written}
+use Rattle.words.specs.declared.Written.the-variants.{Bytes, Refused}
+
+abbrev pub pick : {A : Type 0} → Bool → A → A → A
+pick true a b = a
+pick false a b = b
+
+abbrev pub both : Bool → Bool → Bool
+both true b = b
+both false b = false
+
+pub data Answer (A : Type 0) : Type 0 where
+  gives : A → Answer A
+  refused : ℕ → Answer A
+
+abbrev pub meaning : Written → Answer ℕ
+meaning (Bytes n) = gives (n .0)
+meaning (Refused r) = refused (numberOf r)

@@ -1,0 +1,16 @@
+-- Document 01, "When the number desk refuses": the number of each refusal.
+--
+--   numberOf   the number of a refusal, 1 to 8
+use Prim.Native.Nat.{ℕ}
+use Rattle.words.specs.declared.Refusal.{Refusal}
+use Rattle.words.specs.declared.Refusal.the-variants.{End, Overflow, NotShortest, Place, NoRoom, NotAStart, TooLong, NoStart}
+
+abbrev pub numberOf : Refusal → ℕ
+numberOf End = 1
+numberOf Overflow = 2
+numberOf NotShortest = 3
+numberOf Place = 4
+numberOf NoRoom = 5
+numberOf NotAStart = 6
+numberOf TooLong = 7
+numberOf NoStart = 8

@@ -1,0 +1,43 @@
+// The kinds of number and the refusals that every crate shares: document 01, "The numbers on the page"
+// and "When the number desk refuses".
+ghost use Rattle.words.specs.Promise.{Numbers};
+
+// A place in a buffer or in a run of bytes.
+pub struct Place(pub usize);
+
+// A count of bytes. No place can be handed over for it.
+pub struct Count(pub usize);
+
+// Why the desk refuses, in the order of document 01's table.
+pub enum Refusal {
+    End,
+    Overflow,
+    NotShortest,
+    Place,
+    NoRoom,
+    NotAStart,
+    TooLong,
+    NoStart,
+}
+
+// What a writer answers: the count of bytes that it laid down, or why it laid none.
+pub enum Written {
+    Bytes(Count),
+    Refused(Refusal),
+}
+
+// The number of a refusal, 1 to 8.
+pub fn number(refusal: Refusal) -> u8
+    ensures { λ r. ⌜ Numbers refusal r ⌝ }
+{
+    match refusal {
+        Refusal::End => 1,
+        Refusal::Overflow => 2,
+        Refusal::NotShortest => 3,
+        Refusal::Place => 4,
+        Refusal::NoRoom => 5,
+        Refusal::NotAStart => 6,
+        Refusal::TooLong => 7,
+        Refusal::NoStart => 8,
+    }
+}
