@@ -22,21 +22,21 @@ module _ {A : Type 0} (w : Width A) where
   unfolding runsOut
   runs-out l e h = rw (eq-eqb (run l) (length l) e, lt-ltb (run l) (w .most) h)
 
-  closed-not-out : (l : List ℕ) → run l < length l → runsOut w l ≡ false
+  pub closed-not-out : (l : List ℕ) → run l < length l → runsOut w l ≡ false
   unfolding runsOut
   closed-not-out l h =
       let ne : run l ≡ length l → ⊥ = λ e. omega arith in
       rw (ne-eqb (run l) (length l) ne)
 
-  long-not-out : (l : List ℕ) → w .most ≤ run l → runsOut w l ≡ false
+  pub long-not-out : (l : List ℕ) → w .most ≤ run l → runsOut w l ≡ false
   unfolding runsOut
   long-not-out l h = rw (le-ltb (run l) (w .most) h) (both-false (eqb (run l) (length l)))
 
-  too-large : (l : List ℕ) → w .most ≤ run l + 1 → w .allowed (getD l (w .most - 1) 0) ≡ false → tooLarge w l ≡ true
+  pub too-large : (l : List ℕ) → w .most ≤ run l + 1 → w .allowed (getD l (w .most - 1) 0) ≡ false → tooLarge w l ≡ true
   unfolding tooLarge
   too-large l h e = rw (le-leb (w .most) (run l + 1) h, e)
 
-  short-not-large : (l : List ℕ) → run l + 1 < w .most → tooLarge w l ≡ false
+  pub short-not-large : (l : List ℕ) → run l + 1 < w .most → tooLarge w l ≡ false
   unfolding tooLarge
   short-not-large l h = rw (lt-leb (w .most) (run l + 1) h)
 
@@ -48,7 +48,7 @@ module _ {A : Type 0} (w : Width A) where
   unfolding tooMany
   too-many l h e = rw (lt-ltb 0 (run l) h, e)
 
-  first-not-many : (l : List ℕ) → run l ≡ 0 → tooMany w l ≡ false
+  pub first-not-many : (l : List ℕ) → run l ≡ 0 → tooMany w l ≡ false
   unfolding tooMany
   first-not-many l e = rw (le-ltb 0 (run l) (omega arith))
 
@@ -59,7 +59,7 @@ module _ {A : Type 0} (w : Width A) where
   not-many : (l : List ℕ) → (0 < run l → w .extra (getD l (run l - 1) 0) (getD l (run l) 0) ≡ false) → tooMany w l ≡ false
   not-many l f = by-order 0 (run l) (λ h. needed-not-many l (f h)) (λ h. first-not-many l (omega arith))
 
-  not-large : (l : List ℕ) → run l + 1 ≤ w .most → (run l + 1 ≡ w .most → w .allowed (getD l (run l) 0) ≡ true) → tooLarge w l ≡ false
+  pub not-large : (l : List ℕ) → run l + 1 ≤ w .most → (run l + 1 ≡ w .most → w .allowed (getD l (run l) 0) ≡ true) → tooLarge w l ≡ false
   not-large l h f =
       by-order (run l + 1) (w .most) (λ s. short-not-large l s)
       (λ s. let e : run l + 1 ≡ w .most = omega arith in let i : w .most - 1 ≡ run l = omega arith in allowed-not-large l (rw i (f e)))

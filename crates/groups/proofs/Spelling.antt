@@ -1,0 +1,121 @@
+-- What `spell` gives, as a relation: everything known of forms is proved by induction on it, for unsigned numbers and for
+-- both signs of signed ones at once.
+--
+--   said below g        the number that a group's bytes spell
+--   Spelled m g         g spells m: the last byte says what is left, once it is below small
+--   spelled, unique     `spell` gives such a list, and there is no other
+use Prim.Native.Nat.{ℕ, zero, suc, _+_, _-_, _*_, _/_, _%_, _^_, _≤_, _<_}
+use mathlib.Core.Path.{_≡_, refl, ap, sym, _∙_, subst}
+use mathlib.Core.List.{List, [], _∷_, _++_}
+use mathlib.Core.Bool.{Bool, true, false}
+use native.Mathlib.Nat.{mod-eq-of-lt, pow-succ', mul-assoc, mul-comm, mul-le-mul-left, mul-left-comm}
+use native.Mathlib.Omega.{arith}
+use borrow.Author.Tests.{lt-ltb, le-ltb}
+use lib.Dec.{ltb}
+use lib.ListN.{length, getD}
+use Rattle.words.proofs.Cases.{by-order}
+use Rattle.groups.specs.Group.{run, Group, one, more, digits}
+use Rattle.groups.specs.Form.{say, groups, spellings, spell}
+use Rattle.groups.proofs.Run.{run-low, run-high, pow-up}
+use Rattle.groups.proofs.Storing.{say-below}
+
+unfoldable pub said : Bool → List ℕ → ℕ
+said below [] = 0
+said below (b ∷ g) = say below (b % 128) + 128 * said below g
+
+pub said-digits : (g : List ℕ) → said false g ≡ digits g
+unfolding said digits
+said-digits [] = refl
+said-digits (b ∷ g) = rw (said-digits g)
+
+pub say-say : (below : Bool) (d : ℕ) → d < 128 → say below (say below d) ≡ d
+say-say true d h = omega arith
+say-say false d h = refl
+
+-- the seven bits of a byte that says d
+say-low : (below : Bool) (d : ℕ) → d < 128 → say below (say below d % 128) ≡ d
+say-low below d h = rw (mod-eq-of-lt (say-below below d h)) (say-say below d h)
+
+pub say-high : (below : Bool) (d : ℕ) → d < 128 → say below ((128 + say below d) % 128) ≡ d
+say-high below d h =
+    let e : (128 + say below d) % 128 ≡ say below d = omega (arith, say-below below d h) in
+    rw e (say-say below d h)
+
+pub data Spelled (below : Bool) (small : ℕ) : ℕ → List ℕ → Type 0 where
+  last : {m : ℕ} → m < small → Spelled below small m (say below m ∷ [])
+  byte : {m : ℕ} {g : List ℕ} → small ≤ m → Spelled below small (m / 128) g → Spelled below small m ((128 + say below (m % 128)) ∷ g)
+
+module _ (below : Bool) (small : ℕ) (some : 0 < small) where
+  spelled-within : (n m : ℕ) → m ≤ n → Spelled below small m (spellings below small n m)
+  unfolding spellings
+  spelled-within zero m h = let z : m < small = omega arith in last z
+  spelled-within (suc n) m h =
+      by-order m small (λ l. rw (lt-ltb m small l, spellings) (last l))
+      (λ l. rw (le-ltb m small l, spellings) (byte l (spelled-within n (m / 128) (omega arith))))
+
+  pub spelled : (m : ℕ) → Spelled below small m (spell below small m)
+  unfolding spell
+  spelled m = spelled-within m m (omega arith)
+
+pub unique : {below : Bool} {small m : ℕ} {g h : List ℕ} → Spelled below small m g → Spelled below small m h → g ≡ h
+unique (last p) (last q) = refl
+unique (last p) (byte q s) = absurd (omega arith)
+unique (byte p r) (last q) = absurd (omega arith)
+unique (byte p r) (byte q s) = rw (unique r s)
+
+pub some-bytes : {below : Bool} {small m : ℕ} {g : List ℕ} → Spelled below small m g → 0 < length g
+some-bytes (last p) = omega arith
+some-bytes (byte p r) = omega arith
+
+grown : (below : Bool) (n m : ℕ) → 0 < n → groups below (suc n) m ≡ (128 + say below (m % 128)) ∷ groups below n (m / 128)
+unfolding groups
+grown below zero m h = absurd (omega arith)
+grown below (suc n) m h = refl
+
+times-more : (a k : ℕ) → a * 128 ^ suc k ≡ 128 * (a * 128 ^ k)
+times-more a k = rw (pow-succ' 128 k) (mul-left-comm a 128 (128 ^ k))
+
+module _ {below : Bool} {small : ℕ} (small-low : small ≤ 128) where
+  pub spelled-group : {m : ℕ} {g : List ℕ} → Spelled below small m g → Group g
+  spelled-group (last {m} p) = one (say-below below m (omega arith))
+  spelled-group (byte {m} p r) =
+      let s : say below (m % 128) < 128 = say-below below (m % 128) (omega arith) in
+      let hi : 128 ≤ 128 + say below (m % 128) = omega arith in
+      more hi (omega arith) (spelled-group r)
+
+  pub spelled-said : {m : ℕ} {g : List ℕ} → Spelled below small m g → said below g ≡ m
+  unfolding said
+  spelled-said (last {m} p) = rw (say-low below m (omega arith)) (omega arith)
+  spelled-said (byte {m} p r) = rw (say-high below (m % 128) (omega arith), spelled-said r) (omega arith)
+
+  pub spelled-groups : {m : ℕ} {g : List ℕ} → Spelled below small m g → g ≡ groups below (length g) m
+  unfolding groups
+  spelled-groups (last {m} p) = let e : m % 128 ≡ m = mod-eq-of-lt (omega arith) in rw e
+  spelled-groups (byte {m} {g} p r) = rw (grown below (length g) m (some-bytes r), ← (spelled-groups r))
+
+  -- k + 1 bytes are enough exactly for what is below small times 128 to the k
+  pub short : {m : ℕ} {g : List ℕ} (k : ℕ) → Spelled below small m g → m < small * 128 ^ k → length g ≤ suc k
+  short k (last p) h = omega arith
+  short zero (byte p r) h = absurd (omega arith)
+  short (suc k) (byte {m} p r) h =
+      let q : m / 128 < small * 128 ^ k = omega (arith, times-more small k) in
+      omega (arith, short k r q)
+
+  pub small-enough : {m : ℕ} {g : List ℕ} (k : ℕ) → Spelled below small m g → length g ≤ suc k → m < small * 128 ^ k
+  small-enough k (last p) h = omega (arith, mul-le-mul-left small (pow-up 0 k (omega arith)))
+  small-enough zero (byte p r) h = absurd (omega (arith, some-bytes r))
+  small-enough (suc k) (byte {m} p r) h = omega (arith, times-more small k, small-enough k r (omega arith))
+
+  -- the last byte says what is left behind the others
+  pub last-bounds : {m : ℕ} {g : List ℕ} → Spelled below small m g
+    → (128 ^ run g * say below (getD g (run g) 0) ≤ m) × (m < 128 ^ run g * (say below (getD g (run g) 0) + 1))
+  last-bounds (last {m} p) =
+      rw (run-low (say below m) [] (say-below below m (omega arith)), say-say below m (omega arith)) (omega arith)
+  last-bounds (byte {m} {g} p r) =
+      let b = say below (getD g (run g) 0) in
+      rw (run-high (128 + say below (m % 128)) g (omega arith), pow-succ' 128 (run g))
+      (omega (arith, last-bounds r, mul-assoc 128 (128 ^ run g) b, mul-assoc 128 (128 ^ run g) (b + 1)))
+
+  pub last-small : {m : ℕ} {g : List ℕ} → Spelled below small m g → say below (getD g (run g) 0) < small
+  last-small (last {m} p) = rw (run-low (say below m) [] (say-below below m (omega arith)), say-say below m (omega arith)) p
+  last-small (byte {m} {g} p r) = rw (run-high (128 + say below (m % 128)) g (omega arith)) (last-small r)

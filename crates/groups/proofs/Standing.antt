@@ -1,0 +1,119 @@
+-- A reading accepts exactly where a group that the width accepts stands at the place, whatever follows it.
+--
+--   Stands w s at v n     such a group stands there, v is its value and n its length
+--   behind                more bytes behind a group change nothing
+--   stands, standing      from the reading to the group, and back
+use Prim.Native.Nat.{ℕ, zero, suc, _+_, _-_, _≤_, _<_}
+use mathlib.Core.Path.{_≡_, refl, ap, sym, _∙_, subst}
+use mathlib.Core.List.{List, [], _∷_, _++_}
+use mathlib.Core.Bool.{Bool, true, false}
+use native.Mathlib.Numerals.{add-one}
+use native.Mathlib.Omega.{arith}
+use lib.ListN.{length, getD, take, drop, take-append-drop, length-append, List·getD-append}
+use lib.Seq.{take-append-seam, getD-drop}
+use Rattle.words.specs.Answer.{pick, Answer, gives, refused}
+use Rattle.words.proofs.Cases.{by-order}
+use Rattle.groups.specs.Group.{Bytes, run, Group, one, more}
+use Rattle.groups.specs.Width.{Width, runsOut, tooLarge, tooMany, reading, read}
+use Rattle.groups.proofs.Run.{run-low, run-high, run-within, in-run}
+use Rattle.groups.proofs.Rows.{closed-not-out, short-not-large, row-end, read-past, read-from}
+use Rattle.groups.proofs.Walks.{Sound, overrun}
+use Rattle.groups.proofs.Exact.{group-length}
+
+pub record Stands {A : Type 0} (w : Width A) (s : List ℕ) (at : ℕ) (v : A) (n : ℕ) : Type 0 where
+  pub here : at ≤ length s
+  pub group : List ℕ
+  pub rest : List ℕ
+  pub begins : drop at s ≡ group ++ rest
+  pub is-group : Group group
+  pub not-large : tooLarge w group ≡ false
+  pub not-many : tooMany w group ≡ false
+  pub value : v ≡ w .value group
+  pub count : n ≡ length group
+
+pub run-behind : {g : List ℕ} (rest : List ℕ) → Group g → run (g ++ rest) ≡ run g
+run-behind rest (one {b} p) = run-low b rest p ∙ sym (run-low b [] p)
+run-behind rest (more {b} {g} h l r) = run-high b (g ++ rest) h ∙ ap suc (run-behind rest r) ∙ sym (run-high b g h)
+
+-- the bytes through the first below 128 are a group
+pub front-group : (l : List ℕ) → Bytes l → run l < length l → Group (take (run l + 1) l)
+front-group [] b h = absurd (omega arith)
+front-group (c ∷ l) b h =
+    by-order c 128 (λ low. rw (run-low c l low) (one low))
+    (λ high. let e = run-high c l high in rw (e, add-one)
+    (more high (b 0) (rw add-one at (front-group l (λ i. b (suc i)) (omega arith)))))
+
+module _ {A : Type 0} (w : Width A) {g : List ℕ} (rest : List ℕ) (r : Group g) where
+  same-byte : (i : ℕ) → i ≤ run g → getD (g ++ rest) i 0 ≡ getD g i 0
+  same-byte i h = List·getD-append g rest 0 i (omega (arith, group-length r))
+
+  large-behind : tooLarge w (g ++ rest) ≡ tooLarge w g
+  unfolding tooLarge
+  large-behind =
+      by-order (run g + 1) (w .most)
+      (λ l. short-not-large w (g ++ rest) (rw (run-behind rest r) l) ∙ sym (short-not-large w g l))
+      (λ l. rw (run-behind rest r, same-byte (w .most - 1) (omega arith)))
+
+  many-behind : tooMany w (g ++ rest) ≡ tooMany w g
+  unfolding tooMany
+  many-behind = rw (run-behind rest r, same-byte (run g - 1) (omega arith), same-byte (run g) (omega arith))
+
+  pub behind : reading w (g ++ rest) ≡ pick (tooLarge w g) (refused 2) (pick (tooMany w g) (refused 3) (gives (w .value g, length g)))
+  unfolding reading
+  behind =
+      let n : run g + 1 ≡ length g = omega (arith, group-length r) in
+      let out : runsOut w (g ++ rest) ≡ false =
+          closed-not-out w (g ++ rest) (rw (run-behind rest r, length-append g rest) (omega (arith, group-length r))) in
+      rw (out, large-behind, many-behind, run-behind rest r, n, take-append-seam g rest)
+
+accept : {X : Type 0} {p : X} (t : Bool) (k : ℕ) (x : Answer X) → pick t (refused k) x ≡ gives p → (t ≡ false) × (x ≡ gives p)
+accept true k x e = let z : _≡_ {A = ℕ} 0 1 = cc in absurd (omega arith)
+accept false k x e = (refl, e)
+
+paired : {A : Type 0} {a b : A} {m n : ℕ} → _≡_ {A = Answer (A × ℕ)} (gives (a, m)) (gives (b, n)) → (b ≡ a) × (n ≡ m)
+paired {A} {a} {b} {m} {n} e =
+    let q : _≡_ {A = A × ℕ} (a, m) (b, n) = cc in
+    (sym (ap (λ (x : A × ℕ). x .0) q), sym (ap (λ (x : A × ℕ). x .1) q))
+
+module _ {A : Type 0} (w : Width A) (s : List ℕ) (at : ℕ) where
+  pub standing : {v : A} {n : ℕ} → Stands w s at v n → read w s at ≡ gives (v, n)
+  standing g =
+      read-from w s at (g .here) ∙ rw (g .begins, behind w (g .rest) (g .is-group), g .not-large, g .not-many, g .value, g .count)
+
+  module _ (sound : Sound w) (bytes : Bytes s) {v : A} {n : ℕ} (e : read w s at ≡ gives (v, n)) where
+    clash : {X : Type 0} {k : ℕ} → read w s at ≡ refused k → X
+    clash q = let z : _≡_ {A = ℕ} 0 1 = cc in absurd (omega arith)
+
+    stands-here : at ≤ length s
+    stands-here = by-order (length s) at (λ l. clash (read-past w s at l)) (λ l. l)
+
+    stands-closed : run (drop at s) < length (drop at s)
+    stands-closed =
+        by-order (run (drop at s)) (length (drop at s)) (λ l. l)
+        (λ l.
+        by-order (run (drop at s)) (w .most)
+        (λ m. clash (read-from w s at stands-here ∙ row-end w (drop at s) (omega (arith, run-within (drop at s))) m))
+        (λ m. clash (overrun w sound s at stands-here m)))
+
+    bytes-from : Bytes (drop at s)
+    bytes-from i = rw (getD-drop at s i 0) (bytes (at + i))
+
+    pub stands : Stands w s at v n
+    stands =
+        let l = drop at s in
+        let split : l ≡ take (run l + 1) l ++ drop (run l + 1) l = sym (take-append-drop (run l + 1) l) in
+        let r = front-group l bytes-from stands-closed in
+        let a = accept (tooLarge w (take (run l + 1) l)) 2 _
+            (sym (behind w (drop (run l + 1) l) r) ∙ sym (ap (reading w) split) ∙ sym (read-from w s at stands-here) ∙ e) in
+        let b = accept (tooMany w (take (run l + 1) l)) 3 _ (a .1) in
+        let p = paired (b .1) in
+        record {
+            here = stands-here;
+            group = take (run l + 1) l;
+            rest = drop (run l + 1) l;
+            begins = split;
+            is-group = r;
+            not-large = a .0;
+            not-many = b .0;
+            value = p .0;
+            count = p .1 }

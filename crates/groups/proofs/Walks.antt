@@ -1,0 +1,120 @@
+-- What a walk's answer tells of a reading, at any width of at most ten bytes.
+--
+--   Sound w                 the most bytes are above 0, and only bytes below 128 are allowed there
+--   Closing s at ..         the bytes from the place at on close: what `Walked::Closed` says
+--   told                    what each answer of `walk` says
+--   past, open, .. reads-.. the answer of a reading from it
+use Prim.Native.Nat.{ℕ, zero, suc, _+_, _-_, _*_, _%_, _^_, _≤_, _<_}
+use mathlib.Core.Path.{_≡_, refl, ap, sym, _∙_, subst}
+use mathlib.Core.List.{List}
+use mathlib.Core.Bool.{Bool, true, false}
+use native.Mathlib.Nat.{mod-eq-of-lt}
+use native.Mathlib.Omega.{arith}
+use borrow.Author.Tests.{lt-ltb, le-ltb, le-leb, lt-leb, eq-eqb, ne-eqb}
+use lib.ListN.{length, getD, take, drop}
+use Rattle.words.specs.Answer.{Answer, gives, refused}
+use Rattle.words.proofs.Cases.{by-order}
+use Rattle.groups.specs.Group.{run, digits}
+use Rattle.groups.specs.Width.{Width, reading, read}
+use Rattle.groups.specs.Promise.{walking, walked, Walks}
+use Rattle.groups.specs.declared.reading.Walked.{Walked}
+use Rattle.groups.specs.declared.reading.Walked.the-variants.{Past, Open, Long, Closed}
+use Rattle.groups.proofs.Run.{run-within, in-run, at-run, digits-take, digits-below}
+use Rattle.groups.proofs.Rows.{row-end, row-large, row-many, row-number, read-past, read-from}
+
+pub record Sound {A : Type 0} (w : Width A) : Type 0 where
+  pub some : 0 < w .most
+  pub low : (b : ℕ) → 128 ≤ b → w .allowed b ≡ false
+
+-- all the bytes from the place on, fewer than ten, are high
+pub record Opening (s : List ℕ) (at high : ℕ) : Type 0 where
+  pub here : at ≤ length s
+  pub all : run (drop at s) ≡ length (drop at s)
+  pub many : run (drop at s) ≡ high
+  pub few : high < 10
+
+pub record Closing (s : List ℕ) (at sum weight high last : ℕ) : Type 0 where
+  pub here : at ≤ length s
+  pub many : run (drop at s) ≡ high
+  pub ends : high < length (drop at s)
+  pub few : high < 10
+  pub sums : sum ≡ digits (take high (drop at s))
+  pub weighs : weight ≡ 128 ^ high
+  pub is : last ≡ getD (drop at s) high 0
+  pub low : last < 128
+
+pub record Overrun (s : List ℕ) (at : ℕ) : Type 0 where
+  pub here : at ≤ length s
+  pub many : 10 ≤ run (drop at s)
+
+abbrev pub Told : List ℕ → ℕ → Walked → Type 0
+Told s at Past = length s < at
+Told s at (Open high) = Opening s at high
+Told s at Long = Overrun s at
+Told s at (Closed sum weight high last) = Closing s at sum weight high last
+
+module _ (s : List ℕ) (at : ℕ) where
+  told-from : at ≤ length s → Told s at (walked s at)
+  unfolding walked walking
+  told-from h =
+      let l = drop at s in
+      by-order (run l) 10
+      (λ few.
+      by-order (run l) (length l)
+      (λ ends.
+      let ne : run l ≡ length l → ⊥ = λ e. omega arith in
+      rw (le-ltb (length s) at h, lt-leb 10 (run l) few, ne-eqb (run l) (length l) ne)
+      (record { here = h; many = refl; ends = ends; few = few; sums = refl; weighs = refl; is = refl; low = at-run l ends }))
+      (λ all.
+      let e : run l ≡ length l = omega (arith, run-within l) in
+      rw (le-ltb (length s) at h, lt-leb 10 (run l) few, eq-eqb (run l) (length l) e) (record { here = h; all = e; many = refl; few = few })))
+      (λ many. rw (le-ltb (length s) at h, le-leb 10 (run l) many) (record { here = h; many = many }))
+
+  told-all : Told s at (walked s at)
+  unfolding walked
+  told-all = by-order (length s) at (λ p. rw (lt-ltb (length s) at p) p) told-from
+
+  pub told : {r r′ : Walked} → Walks s at r → r ≡ r′ → Told s at r′
+  told p e = subst (Told s at) (sym (p .is) ∙ e) told-all
+
+module _ {A : Type 0} (w : Width A) (sound : Sound w) (s : List ℕ) (at : ℕ) where
+  -- as many high bytes as the width has bytes: the one at the greatest length is not allowed
+  pub overrun : at ≤ length s → w .most ≤ run (drop at s) → read w s at ≡ refused 2
+  overrun h m =
+      read-from w s at h ∙ row-large w (drop at s) (omega (arith, run-within (drop at s))) (omega arith)
+      (sound .low (getD (drop at s) (w .most - 1) 0) (in-run (drop at s) (w .most - 1) (omega (arith, sound .some))))
+
+  pub open-short : {high : ℕ} → Opening s at high → high < w .most → read w s at ≡ refused 1
+  open-short o m = read-from w s at (o .here) ∙ row-end w (drop at s) (o .all) (omega (arith, o .many))
+
+  module _ {sum weight high last : ℕ} (c : Closing s at sum weight high last) where
+    pub closed-large : high + 1 ≡ w .most → w .allowed last ≡ false → read w s at ≡ refused 2
+    closed-large e f =
+        let i : w .most - 1 ≡ high = omega arith in
+        read-from w s at (c .here)
+        ∙ row-large w (drop at s) (omega (arith, c .ends)) (omega (arith, c .many)) (rw (i, ← (c .is)) f)
+
+    module _ (fits : high + 1 ≤ w .most) (allowed : high + 1 ≡ w .most → w .allowed last ≡ true) where
+      closing-allowed : run (drop at s) + 1 ≡ w .most → w .allowed (getD (drop at s) (run (drop at s)) 0) ≡ true
+      closing-allowed e = rw (c .many, ← (c .is)) (allowed (rw (c .many) at e))
+
+      pub closed-many : 0 < high → w .extra (getD (drop at s) (high - 1) 0) last ≡ true → read w s at ≡ refused 3
+      closed-many h e =
+          read-from w s at (c .here)
+          ∙ row-many w (drop at s) (omega (arith, c .many, c .ends)) (omega (arith, c .many)) closing-allowed (omega (arith, c .many))
+          (rw (c .many, ← (c .is)) e)
+
+      pub closed-number : (0 < high → w .extra (getD (drop at s) (high - 1) 0) last ≡ false)
+        → read w s at ≡ gives (w .value (take (high + 1) (drop at s)), high + 1)
+      closed-number f =
+          read-from w s at (c .here)
+          ∙ row-number w (drop at s) (omega (arith, c .many, c .ends)) (omega (arith, c .many)) closing-allowed
+          (λ h. rw (c .many, ← (c .is)) (f (rw (c .many) at h)))
+          ∙ rw (c .many)
+
+module _ {s : List ℕ} {at sum weight high last : ℕ} (c : Closing s at sum weight high last) where
+  -- what the whole group sums to
+  pub closed-digits : digits (take (high + 1) (drop at s)) ≡ sum + weight * last
+  closed-digits =
+      digits-take (drop at s) high (c .ends)
+      ∙ rw (← (c .is), ← (c .sums), ← (c .weighs), mod-eq-of-lt (c .low))

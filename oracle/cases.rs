@@ -1,0 +1,430 @@
+//! The cases: first those written down by hand, then each limit from both sides, then random ones.
+//!
+//!   committed   the cases that the repository holds
+//!   large       these, all pairs of bytes, long frames, and a million random cases more
+//!
+//! Nothing here says what an answer should be. The same bytes come out on every machine.
+
+use crate::answers::{form, length, power, Rule, GROWTH};
+use crate::frames::{put, MOST_BYTES};
+use crate::known::put_known;
+use Rule::*;
+
+const READERS: [(u8, Rule); 4] = [(1, U64), (2, U64), (3, U32), (4, I64)];
+const WRITERS: [(u8, Rule); 4] = [(5, U64), (6, U64), (7, U32), (8, I64)];
+const LENGTHS: [(u8, Rule); 3] = [(9, U64), (10, U32), (11, I64)];
+
+/// The second bytes of the committed pairs: around each bit that a rule looks at.
+const SECONDS: [u8; 12] = [
+    0x00, 0x01, 0x3f, 0x40, 0x7e, 0x7f, 0x80, 0x81, 0xbf, 0xc0, 0xfe, 0xff,
+];
+
+/// The largest place there is.
+const FAR: u64 = u64::MAX;
+
+/// The cases that the repository holds. A frame cut short ends a run, so there is one, at the end:
+/// its header says three bytes and two follow.
+pub fn committed() -> Vec<u8> {
+    let mut input = Vec::new();
+    whole(&mut input);
+    let mut last = Vec::new();
+    put(&mut last, 1, 0, 0, &[128, 128, 1]);
+    input.extend(&last[..last.len() - 1]);
+    input
+}
+
+/// The large run. It ends with a frame that is all there and has one byte too many, and with a
+/// good frame behind it that is not to be answered.
+pub fn large() -> Vec<u8> {
+    let mut input = Vec::new();
+    whole(&mut input);
+    pairs(&mut input, &all_bytes());
+    for count in [65_535, 65_536, 65_537, MOST_BYTES as usize] {
+        long_frame(&mut input, count);
+    }
+    random_cases(&mut input, 2, 1_000_000);
+    put(&mut input, 1, 0, 0, &vec![1; MOST_BYTES as usize + 1]);
+    put(&mut input, 1, 0, 0, &[1]);
+    input
+}
+
+/// The committed cases without the frame that is cut short.
+fn whole(input: &mut Vec<u8>) {
+    put_known(input);
+    single_bytes(input);
+    pairs(input, &SECONDS);
+    runs(input);
+    growth(input);
+    starts(input);
+    rooms(input);
+    odd_frames(input);
+    // One byte more than a block may have: the number desk knows no such limit.
+    long_frame(input, 4_097);
+    random_cases(input, 1, 5_000);
+}
+
+// ---- reading
+
+fn all_bytes() -> Vec<u8> {
+    (0..=255).collect()
+}
+
+fn single_bytes(input: &mut Vec<u8>) {
+    for (op, _) in READERS {
+        for byte in all_bytes() {
+            put(input, op, 0, 0, &[byte]);
+        }
+    }
+}
+
+fn pairs(input: &mut Vec<u8>, seconds: &[u8]) {
+    for (op, _) in READERS {
+        for first in all_bytes() {
+            for second in seconds {
+                put(input, op, 0, 0, &[first, *second]);
+            }
+        }
+    }
+}
+
+/// Runs of 80 and of ff, as long as the most bytes and longer, with the bit of weight 64 of the
+/// run's last byte as it is and turned over, then a last byte or none.
+fn runs(input: &mut Vec<u8>) {
+    const LASTS: [u8; 14] = [0, 1, 2, 14, 15, 16, 17, 62, 63, 64, 65, 125, 126, 127];
+    for (op, _) in READERS {
+        for count in 0..=12 {
+            for (byte, turned) in [(0x80, 0xc0), (0xff, 0xbf)] {
+                let same = vec![byte; count];
+                let mut other = same.clone();
+                if let Some(last) = other.last_mut() {
+                    *last = turned;
+                }
+                for run in [same, other] {
+                    put(input, op, 0, 0, &run);
+                    for last in LASTS {
+                        put(input, op, 0, 0, &[&run[..], &[last]].concat());
+                    }
+                }
+            }
+        }
+    }
+}
+
+/// Numbers of each length with bytes before and behind them, read at every place there is and at
+/// places past the end. The front ends in the middle of a group, or just behind one.
+fn starts(input: &mut Vec<u8>) {
+    for (op, rule) in READERS {
+        for v in each_length(rule) {
+            let number = form(rule, v);
+            for (front, behind) in [
+                (&[0x05, 0x80][..], &[0x00][..]),
+                (&[0x80, 0x00], &[0xff, 0x81]),
+            ] {
+                let bytes = [front, &number, behind].concat();
+                let end = bytes.len() as u64;
+                let far = [end + 1, end + 2, 1 << 32, 1 << 63, FAR - end, FAR - 1, FAR];
+                for place in (0..=end).chain(far) {
+                    put(input, op, place, 0, &bytes);
+                }
+            }
+        }
+        for place in [0, 1, 2, FAR] {
+            put(input, op, place, 0, &[]);
+        }
+    }
+}
+
+// ---- writing
+
+/// The numbers next to each value at which a form grows, on both sides, and the ends of the width.
+fn numbers(rule: Rule) -> Vec<i128> {
+    let turns: Vec<i128> = match rule {
+        U64 | U32 => GROWTH.to_vec(),
+        I64 => (1..=9)
+            .flat_map(|k| [power(7 * k - 1), -power(7 * k - 1)])
+            .collect(),
+    };
+    let ends = [rule.smallest(), 0, rule.largest()];
+    let near = turns
+        .iter()
+        .chain(&ends)
+        .flat_map(|at| [at - 2, at - 1, *at, at + 1]);
+    let mut all: Vec<i128> = near
+        .filter(|v| rule.smallest() <= *v && *v <= rule.largest())
+        .collect();
+    all.sort();
+    all.dedup();
+    all
+}
+
+/// The lowest and the highest number of each length.
+fn each_length(rule: Rule) -> Vec<i128> {
+    let all = numbers(rule);
+    let mut some = Vec::new();
+    for k in 1..=rule.most() {
+        let mut of_k = all.iter().filter(|v| length(rule, **v) == k);
+        some.push(*of_k.next().unwrap());
+        some.push(*of_k.last().unwrap());
+    }
+    some
+}
+
+/// Bytes that are not 0 and differ, so that a store beside the place shows.
+fn filler(count: usize) -> Vec<u8> {
+    (0..count).map(|i| (53 + 29 * i % 199) as u8).collect()
+}
+
+/// Every number beside a growth value: its length, its form written between other bytes, and the
+/// form read by each reader, of other widths too.
+fn growth(input: &mut Vec<u8>) {
+    for (op, rule) in LENGTHS {
+        for v in numbers(rule) {
+            put(input, op, v as u64, 0, &[]);
+        }
+    }
+    for (op, rule) in WRITERS {
+        for v in numbers(rule) {
+            put(input, op, v as u64, 1, &filler(length(rule, v) + 2));
+        }
+    }
+    for (op, _) in READERS {
+        for rule in [U64, I64] {
+            for v in numbers(rule) {
+                put(input, op, 0, 0, &form(rule, v));
+            }
+        }
+    }
+}
+
+/// Numbers of each length into buffers too small by one, just large enough and larger, at places
+/// around the last that fits, around the buffer's length, and so far that place + bytes needed is
+/// more than 64 bits hold, and would seem to fit if it were cut to them.
+fn rooms(input: &mut Vec<u8>) {
+    for (op, rule) in WRITERS {
+        for v in each_length(rule) {
+            let needed = length(rule, v) as u64;
+            for room in [needed - 1, needed, needed + 1, needed + 3] {
+                let spare = room.saturating_sub(needed);
+                let mut places = vec![0, 1, spare, spare + 1, room, room + 1, 1 << 32, 1 << 63];
+                places.extend([FAR - needed, FAR - (needed - 1), FAR - needed / 2, FAR]);
+                places.sort();
+                places.dedup();
+                for place in places {
+                    put(input, op, v as u64, place, &filler(room as usize));
+                }
+            }
+        }
+        for place in [0, 1, FAR] {
+            put(input, op, 0, place, &[]);
+        }
+    }
+}
+
+// ---- ops and frames
+
+/// Ops that the table does not have, numbers that 32 bits do not hold, and fields that an op does
+/// not ask for.
+fn odd_frames(input: &mut Vec<u8>) {
+    for op in [0, 18, 19, 100, 127, 128, 254, 255] {
+        put(input, op, 0, 0, &[]);
+        put(input, op, 1, FAR, &[0x80, 0x01, 0xff]);
+    }
+    for op in [7, 10] {
+        let least = 1 << 32;
+        for a in [least - 1, least, least + 1, least + 128, 1 << 63, FAR] {
+            for place in [0, 3, FAR] {
+                put(input, op, a, place, &filler(7));
+            }
+        }
+    }
+    for (op, _) in READERS {
+        put(input, op, 1, FAR, &[0x80, 0x81, 0x01]);
+    }
+    for (op, _) in LENGTHS {
+        put(input, op, 300, FAR, &filler(5));
+    }
+}
+
+/// A number at the very end of many bytes, read and written.
+fn long_frame(input: &mut Vec<u8>, count: usize) {
+    let mut bytes = filler(count);
+    let place = count as u64 - 2;
+    for (op, _) in WRITERS {
+        put(input, op, 300, place, &bytes);
+    }
+    bytes[count - 2..].copy_from_slice(&[0x80, 0x01]);
+    for (op, _) in READERS {
+        put(input, op, place, 0, &bytes);
+    }
+}
+
+// ---- random cases
+
+/// splitmix64: the same numbers from the same seed on every machine.
+struct Random(u64);
+
+impl Random {
+    fn next(&mut self) -> u64 {
+        self.0 = self.0.wrapping_add(0x9e3779b97f4a7c15);
+        let mut x = self.0;
+        x = (x ^ (x >> 30)).wrapping_mul(0xbf58476d1ce4e5b9);
+        x = (x ^ (x >> 27)).wrapping_mul(0x94d049bb133111eb);
+        x ^ (x >> 31)
+    }
+
+    fn below(&mut self, limit: usize) -> usize {
+        (self.next() % limit as u64) as usize
+    }
+
+    fn byte(&mut self) -> u8 {
+        self.below(256) as u8
+    }
+
+    /// Bytes of which one in `low` is below 128 by choice, so that long runs of others come up too.
+    fn bytes(&mut self, count: usize) -> Vec<u8> {
+        let low = [2, 4, 16][self.below(3)];
+        let mut bytes = Vec::new();
+        for _ in 0..count {
+            let seven = self.byte() % 128;
+            bytes.push(if self.below(low) == 0 {
+                seven
+            } else {
+                seven + 128
+            });
+        }
+        bytes
+    }
+
+    /// A number of the width; each length is about as likely as another, and so are both sides of
+    /// the values at which it grows.
+    fn number(&mut self, rule: Rule) -> i128 {
+        let k = 1 + self.below(rule.most());
+        let limit = match rule {
+            U64 | U32 => power(7 * k).min(rule.largest() + 1),
+            I64 => power(7 * k - 1).min(rule.largest() + 1),
+        };
+        let v = match self.below(4) {
+            0 => limit - 2 + self.below(4) as i128,
+            _ => self.next() as i128 % limit,
+        };
+        let v = if rule == I64 && self.below(2) == 0 {
+            -v
+        } else {
+            v
+        };
+        v.clamp(rule.smallest(), rule.largest())
+    }
+
+    /// One time in twenty 64 bits where 32 are asked for, so that some numbers are too large.
+    fn at_times_wider(&mut self, rule: Rule) -> Rule {
+        let wider = self.below(20) == 0;
+        if rule == U32 && wider {
+            U64
+        } else {
+            rule
+        }
+    }
+
+    /// A place past the end of every buffer here, up to the largest there is.
+    fn far(&mut self) -> u64 {
+        match self.below(3) {
+            0 => FAR - self.below(20) as u64,
+            1 => (1 << 32) + self.below(20) as u64,
+            _ => self.next() | 1 << 63,
+        }
+    }
+
+    /// A form as it is, or with a bit turned over, a byte removed, one put in, one replaced, or one
+    /// added that may be one too many.
+    fn damaged(&mut self, mut bytes: Vec<u8>) -> Vec<u8> {
+        let at = self.below(bytes.len());
+        match self.below(6) {
+            0 => bytes[at] ^= 1 << self.below(8),
+            1 => {
+                bytes.remove(at);
+            }
+            2 => {
+                let byte = self.byte();
+                bytes.insert(at, byte);
+            }
+            3 => bytes[at] = self.byte(),
+            4 => {
+                *bytes.last_mut().unwrap() |= 128;
+                bytes.push([0, 127][self.below(2)]);
+            }
+            _ => {}
+        }
+        bytes
+    }
+
+    /// Bytes up to the greatest length, the last of them in and out of what the width allows.
+    fn longest(&mut self, rule: Rule) -> Vec<u8> {
+        let mut bytes: Vec<u8> = (1..rule.most()).map(|_| self.byte() | 128).collect();
+        bytes.push([0, 1, 2, 15, 16, 63, 64, 126, 127, 128][self.below(10)]);
+        bytes
+    }
+
+    fn read_case(&mut self, input: &mut Vec<u8>, op: u8, rule: Rule) {
+        let count = self.below(4);
+        let front = self.bytes(count);
+        let number = match self.below(6) {
+            0 => {
+                let count = self.below(14);
+                self.bytes(count)
+            }
+            1 => {
+                let other = [U64, U32, I64][self.below(3)];
+                form(other, self.number(other))
+            }
+            2 => self.longest(rule),
+            _ => {
+                let number = form(rule, self.number(rule));
+                self.damaged(number)
+            }
+        };
+        let count = self.below(4);
+        let behind = self.bytes(count);
+        let bytes = [&front[..], &number, &behind].concat();
+        let place = match self.below(16) {
+            0 => self.far(),
+            1..=3 => self.below(bytes.len() + 3) as u64,
+            _ => front.len() as u64,
+        };
+        put(input, op, place, 0, &bytes);
+    }
+
+    fn write_case(&mut self, input: &mut Vec<u8>, op: u8, rule: Rule) {
+        let v = self.number(rule);
+        let needed = length(rule, v);
+        let room = (needed + self.below(5)).saturating_sub(self.below(3));
+        let buffer: Vec<u8> = (0..room).map(|_| self.byte()).collect();
+        let place = match self.below(16) {
+            0 => self.far(),
+            1..=3 => self.below(room + 3) as u64,
+            4..=6 => (room + 1).saturating_sub(needed) as u64,
+            _ => self.below((room + 1).saturating_sub(needed).max(1)) as u64,
+        };
+        put(input, op, v as u64, place, &buffer);
+    }
+}
+
+/// Random cases from a seed, spread over ops 1 to 11.
+fn random_cases(input: &mut Vec<u8>, seed: u64, count: usize) {
+    let mut random = Random(seed);
+    for _ in 0..count {
+        let pick = random.below(11);
+        match pick {
+            0..=3 => random.read_case(input, READERS[pick].0, READERS[pick].1),
+            4..=7 => {
+                let (op, rule) = WRITERS[pick - 4];
+                let rule = random.at_times_wider(rule);
+                random.write_case(input, op, rule);
+            }
+            _ => {
+                let (op, rule) = LENGTHS[pick - 8];
+                let rule = random.at_times_wider(rule);
+                put(input, op, random.number(rule) as u64, 0, &[]);
+            }
+        }
+    }
+}
