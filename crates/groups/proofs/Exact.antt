@@ -47,7 +47,7 @@ module _ {A : Type 0} (w : Width A) where
 
 -- a byte in front of what is spelled
 front : {below : Bool} {small b m : ℕ} {g : List ℕ} → 128 ≤ b → b < 256 → Spelled below small m g
-  → small ≤ say below (b % 128) + 128 * m → Spelled below small (say below (b % 128) + 128 * m) (b ∷ g)
+    → small ≤ say below (b % 128) + 128 * m → Spelled below small (say below (b % 128) + 128 * m) (b ∷ g)
 front {below} {small} {b} {m} {g} hi l s e =
     let d : say below (b % 128) < 128 = say-below below (b % 128) (omega arith) in
     let q : (say below (b % 128) + 128 * m) / 128 ≡ m = omega arith in
@@ -67,7 +67,7 @@ pub record Spells {A : Type 0} (w : Width A) (below : Bool) (small top : ℕ) : 
   pub allowed : (b : ℕ) → b < 128 → say below b < small → w .allowed b ≡ leb (say below b) top
   -- a last byte is needed exactly when it and the one before it say no less than one byte could
   pub needed : (before b : ℕ) → b < 128 → say below b < small
-    → (w .extra before b ≡ false) ↔ (small ≤ say below (before % 128) + 128 * say below b)
+      → (w .extra before b ≡ false) ↔ (small ≤ say below (before % 128) + 128 * say below b)
 
 module _ {A : Type 0} {w : Width A} {below : Bool} {small top : ℕ} (k : Spells w below small top) where
   -- a byte in front of what spells m, that is not one too few
@@ -104,8 +104,8 @@ module _ {A : Type 0} {w : Width A} {below : Bool} {small top : ℕ} (k : Spells
     below-not-large : m < 128 ^ (w .most - 1) * (top + 1) → tooLarge w g ≡ false
     below-not-large h =
         let n : length g ≤ suc (w .most - 1) =
-            short (k .low) (w .most - 1) s
-            (omega (arith, mul-comm small (128 ^ (w .most - 1)), mul-le-mul-left (128 ^ (w .most - 1)) (k .under))) in
+        short (k .low) (w .most - 1) s
+        (omega (arith, mul-comm small (128 ^ (w .most - 1)), mul-le-mul-left (128 ^ (w .most - 1)) (k .under))) in
         not-large w g (omega (arith, size, k .sound .some))
         (λ e. last-allowed ∙ le-leb (say below (getD g (run g) 0)) top (at-most (128 ^ (w .most - 1))
         (rw (let i : run g ≡ w .most - 1 = omega arith in ap (λ (j : ℕ). 128 ^ j) i) at (last-bounds (k .low) s .0)) h))
@@ -148,11 +148,11 @@ module _ {A : Type 0} {w : Width A} {below : Bool} {small top : ℕ} (k : Spells
       front hi l s (enough hi s t)
 
   pub accepts : {m : ℕ} → m < 128 ^ (w .most - 1) * (top + 1)
-    → Group (spell below small m) × (tooLarge w (spell below small m) ≡ false) × (tooMany w (spell below small m) ≡ false)
+      → Group (spell below small m) × (tooLarge w (spell below small m) ≡ false) × (tooMany w (spell below small m) ≡ false)
   accepts {m} h = let s = spelled below small (k .some) m in (spelled-group (k .low) s, below-not-large s h, not-many s)
 
   pub accepted : {g : List ℕ} → Group g → say below (getD g (run g) 0) < small → tooLarge w g ≡ false → tooMany w g ≡ false
-    → (g ≡ spell below small (said below g)) × (said below g < 128 ^ (w .most - 1) * (top + 1))
+      → (g ≡ spell below small (said below g)) × (said below g < 128 ^ (w .most - 1) * (top + 1))
   accepted {g} r h e t =
       let s : Spelled below small (said below g) g = recognized r h t in
       (unique s (spelled below small (k .some) (said below g)), not-large-below s e)

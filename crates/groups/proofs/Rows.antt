@@ -71,14 +71,14 @@ module _ {A : Type 0} (w : Width A) where
 
   -- row 2: the byte at the greatest length is there, all earlier are 128 or more, and it is not allowed
   pub row-large : (l : List ℕ) → w .most ≤ length l → w .most ≤ run l + 1 → w .allowed (getD l (w .most - 1) 0) ≡ false
-    → reading w l ≡ refused 2
+      → reading w l ≡ refused 2
   unfolding reading
   row-large l there h e =
       let out : runsOut w l ≡ false = by-order (run l) (length l) (λ c. closed-not-out l c) (λ c. long-not-out l (omega (arith, run-within l))) in
       rw (out, too-large l h e)
 
   module _ (l : List ℕ) (ends : run l < length l) (fits : run l + 1 ≤ w .most)
-    (last : run l + 1 ≡ w .most → w .allowed (getD l (run l) 0) ≡ true) where
+      (last : run l + 1 ≡ w .most → w .allowed (getD l (run l) 0) ≡ true) where
     -- row 3: the number ends, not too large, and its last byte isn't the first and is one too many
     pub row-many : 0 < run l → w .extra (getD l (run l - 1) 0) (getD l (run l) 0) ≡ true → reading w l ≡ refused 3
     unfolding reading
@@ -86,7 +86,7 @@ module _ {A : Type 0} (w : Width A) where
 
     -- no row: the number
     pub row-number : (0 < run l → w .extra (getD l (run l - 1) 0) (getD l (run l) 0) ≡ false)
-      → reading w l ≡ gives (w .value (take (run l + 1) l), run l + 1)
+        → reading w l ≡ gives (w .value (take (run l + 1) l), run l + 1)
     unfolding reading
     row-number f = rw (closed-not-out l ends, not-large l fits last, not-many l f)
 

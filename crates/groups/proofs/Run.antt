@@ -66,7 +66,7 @@ digits-more (c ∷ g) b =
     rw (digits-more g b)
     (omega (arith, ap (λ (n : ℕ). n * (b % 128)) (pow-succ' 128 (length g)), mul-assoc 128 (128 ^ length g) (b % 128)))
 
-pub digits-below : (g : List ℕ) → digits g < 128 ^ length g
+digits-below : (g : List ℕ) → digits g < 128 ^ length g
 unfolding digits
 digits-below [] = omega arith
 digits-below (b ∷ g) = let ih : digits g < 128 ^ length g = digits-below g in omega (arith, pow-succ' 128 (length g))
@@ -75,6 +75,9 @@ pub digits-take : (l : List ℕ) (i : ℕ) → i < length l → digits (take (i 
 digits-take l i h =
     let e : length (take i l) ≡ i = length-take-le i l (omega arith) in
     rw (add-one, take-suc l i 0 h, digits-more (take i l) (getD l i 0), e)
+
+pub digits-take-below : (l : List ℕ) (i : ℕ) → i ≤ length l → digits (take i l) < 128 ^ i
+digits-take-below l i h = rw (length-take-le i l h) at (digits-below (take i l))
 
 pub pow-up : (i j : ℕ) → i ≤ j → 128 ^ i ≤ 128 ^ j
 pow-up i j h = pow-le-pow-right (omega arith) h

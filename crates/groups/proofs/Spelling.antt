@@ -108,7 +108,7 @@ module _ {below : Bool} {small : ℕ} (small-low : small ≤ 128) where
 
   -- the last byte says what is left behind the others
   pub last-bounds : {m : ℕ} {g : List ℕ} → Spelled below small m g
-    → (128 ^ run g * say below (getD g (run g) 0) ≤ m) × (m < 128 ^ run g * (say below (getD g (run g) 0) + 1))
+      → (128 ^ run g * say below (getD g (run g) 0) ≤ m) × (m < 128 ^ run g * (say below (getD g (run g) 0) + 1))
   last-bounds (last {m} p) =
       rw (run-low (say below m) [] (say-below below m (omega arith)), say-say below m (omega arith)) (omega arith)
   last-bounds (byte {m} {g} p r) =

@@ -16,7 +16,7 @@ use Rattle.words.proofs.Cases.{by-order}
 use Rattle.groups.specs.Group.{Bytes, run, Group, one, more}
 use Rattle.groups.specs.Width.{Width, runsOut, tooLarge, tooMany, reading, read}
 use Rattle.groups.proofs.Run.{run-low, run-high, run-within, in-run}
-use Rattle.groups.proofs.Rows.{closed-not-out, short-not-large, row-end, read-past, read-from}
+use Rattle.groups.proofs.Rows.{closed-not-out, short-not-large, too-large, row-end, read-past, read-from}
 use Rattle.groups.proofs.Walks.{Sound, overrun}
 use Rattle.groups.proofs.Exact.{group-length}
 
@@ -63,7 +63,7 @@ module _ {A : Type 0} (w : Width A) {g : List ℕ} (rest : List ℕ) (r : Group 
   behind =
       let n : run g + 1 ≡ length g = omega (arith, group-length r) in
       let out : runsOut w (g ++ rest) ≡ false =
-          closed-not-out w (g ++ rest) (rw (run-behind rest r, length-append g rest) (omega (arith, group-length r))) in
+      closed-not-out w (g ++ rest) (rw (run-behind rest r, length-append g rest) (omega (arith, group-length r))) in
       rw (out, large-behind, many-behind, run-behind rest r, n, take-append-seam g rest)
 
 accept : {X : Type 0} {p : X} (t : Bool) (k : ℕ) (x : Answer X) → pick t (refused k) x ≡ gives p → (t ≡ false) × (x ≡ gives p)
@@ -104,16 +104,30 @@ module _ {A : Type 0} (w : Width A) (s : List ℕ) (at : ℕ) where
         let split : l ≡ take (run l + 1) l ++ drop (run l + 1) l = sym (take-append-drop (run l + 1) l) in
         let r = front-group l bytes-from stands-closed in
         let a = accept (tooLarge w (take (run l + 1) l)) 2 _
-            (sym (behind w (drop (run l + 1) l) r) ∙ sym (ap (reading w) split) ∙ sym (read-from w s at stands-here) ∙ e) in
+        (sym (behind w (drop (run l + 1) l) r) ∙ sym (ap (reading w) split) ∙ sym (read-from w s at stands-here) ∙ e) in
         let b = accept (tooMany w (take (run l + 1) l)) 3 _ (a .1) in
         let p = paired (b .1) in
         record {
-            here = stands-here;
-            group = take (run l + 1) l;
-            rest = drop (run l + 1) l;
-            begins = split;
-            is-group = r;
-            not-large = a .0;
-            not-many = b .0;
-            value = p .0;
-            count = p .1 }
+          here = stands-here;
+          group = take (run l + 1) l;
+          rest = drop (run l + 1) l;
+          begins = split;
+          is-group = r;
+          not-large = a .0;
+          not-many = b .0;
+          value = p .0;
+          count = p .1;
+        }
+
+-- what is read takes no more than the most bytes, and at least one
+pub count-within : {A : Type 0} (w : Width A) {s : List ℕ} {at : ℕ} {v : A} {n : ℕ} → Sound w → Stands w s at v n → n ≤ w .most
+count-within w {n = n} sound g =
+    by-order (w .most) n
+    (λ l.
+    let e : length (g .group) ≡ suc (run (g .group)) = group-length (g .is-group) in
+    let t : tooLarge w (g .group) ≡ true =
+    too-large w (g .group) (omega (arith, g .count)) (sound .low (getD (g .group) (w .most - 1) 0)
+    (in-run (g .group) (w .most - 1) (omega (arith, g .count, sound .some)))) in
+    let f : tooLarge w (g .group) ≡ false = g .not-large in
+    let z : _≡_ {A = ℕ} 0 1 = cc in absurd (omega arith))
+    (λ l. l)

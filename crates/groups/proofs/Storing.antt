@@ -24,12 +24,15 @@ module _ (bytes s : List ℕ) (at : ℕ) where
       let t = lt-leb (at + length bytes) (length s) h in
       record { answer = rw t; leaves = rw t }
 
-  pub lays : (n : Count) {out : List ℕ} → at + length bytes ≤ length s → n .0 ≡ length bytes → out ≡ paste s at bytes (length bytes)
-    → Lays bytes s at (Bytes n) out
+  pub lays : (n : Count) {out : List ℕ} → at + length bytes ≤ length s → n .0 ≡ length bytes
+      → out ≡ take at s ++ bytes ++ drop (at + length bytes) s → Lays bytes s at (Bytes n) out
   unfolding writing laid
   lays n {out} h e f =
       let t = le-leb (at + length bytes) (length s) h in
-      record { answer = rw t (ap gives e); leaves = rw t (f ∙ rw (take-length bytes)) }
+      record { answer = rw t (ap gives e); leaves = rw t f }
+
+  pasted-all : (n : ℕ) → n ≡ length bytes → paste s at bytes n ≡ take at s ++ bytes ++ drop (at + length bytes) s
+  pasted-all n e = rw (e, take-length bytes)
 
 pub length-groups : (below : Bool) (n m : ℕ) → length (groups below n m) ≡ n
 unfolding groups
@@ -38,10 +41,11 @@ length-groups below (suc zero) m = refl
 length-groups below (suc (suc n)) m = ap suc (length-groups below (suc n) (m / 128))
 
 pub none-laid : (below : Bool) (m : ℕ) (s : List ℕ) (at : ℕ) (n : Count) → n .0 ≡ 0 → at ≤ length s
-  → Lays (groups below (n .0) m) s at (Bytes n) s
+    → Lays (groups below (n .0) m) s at (Bytes n) s
 none-laid below m s at n e h =
     let z : length (groups below (n .0) m) ≡ 0 = length-groups below (n .0) m ∙ e in
-    lays (groups below (n .0) m) s at n (rw z (omega arith)) (e ∙ sym z) (rw z (paste-zero s at (groups below (n .0) m)))
+    lays (groups below (n .0) m) s at n (rw z (omega arith)) (e ∙ sym z)
+    (paste-zero s at (groups below (n .0) m) ∙ pasted-all (groups below (n .0) m) s at 0 (sym z))
 
 pub say-below : (below : Bool) (d : ℕ) → d < 128 → say below d < 128
 say-below true d h = omega arith
@@ -80,7 +84,7 @@ module _ (below : Bool) (more m : ℕ) (s : List ℕ) (at : ℕ) (room : at + su
     one-stored h =
         let k : more - i ≡ suc (more - (i + 1)) = omega arith in
         let e : groups below (suc (more - i)) rest ≡ (128 + say below (rest % 128)) ∷ groups below (suc (more - (i + 1))) (rest / 128) =
-            rw k in
+        rw k in
         record { few = omega arith; pasted = next-stored _ _ e ∙ rw add-one; left = rest-left _ _ e; kept = simp length-set (g .kept) }
 
     last-byte : more ≤ i → groups below (suc (more - i)) rest ≡ say below (rest % 128) ∷ []
@@ -88,10 +92,10 @@ module _ (below : Bool) (more m : ℕ) (s : List ℕ) (at : ℕ) (room : at + su
     last-byte h = let z : more - i ≡ 0 = omega arith in rw z
 
     pub all-stored : (n : Count) → n .0 ≡ suc more → more ≤ i
-      → Lays (groups below (n .0) m) s at (Bytes n) (set out (at + more) (say below (rest % 128)))
+        → Lays (groups below (n .0) m) s at (Bytes n) (set out (at + more) (say below (rest % 128)))
     all-stored n c h =
         let j : i ≡ more = omega (arith, g .few) in
         let p : set out (at + more) (say below (rest % 128)) ≡ paste s at (groups below (suc more) m) (suc more) =
-            rw j at (next-stored _ _ (last-byte h)) in
+        rw j at (next-stored _ _ (last-byte h)) in
         lays (groups below (n .0) m) s at n (rw (length-groups below (n .0) m, c) room) (sym (length-groups below (n .0) m))
-        (rw (length-groups below (n .0) m, c) p)
+        (rw c (p ∙ pasted-all (groups below (suc more) m) s at (suc more) (sym (length-groups below (suc more) m))))

@@ -9,7 +9,7 @@ use native.Mathlib.Omega.{arith}
 use borrow.Author.Tests.{lt-ltb, le-ltb, le-leb, lt-leb, eq-eqb, ne-eqb}
 use lib.Dec.{leb, ltb, eqb}
 use lib.ListN.{length, getD, take, drop, length-take, length-drop}
-use lib.Seq.{getD-drop, take-suc, length-take-le}
+use lib.Seq.{getD-drop, take-suc}
 use Rattle.words.specs.Answer.{pick, both, Answer, gives, refused}
 use Rattle.words.proofs.Cases.{by-order}
 use Rattle.groups.specs.Group.{run, digits}
@@ -17,7 +17,7 @@ use Rattle.groups.specs.Width.{Width, reading, read}
 use Rattle.groups.specs.Promise.{walking, walked, Walks}
 use Rattle.groups.specs.declared.reading.Walked.{Walked}
 use Rattle.groups.specs.declared.reading.Walked.the-variants.{Past, Open, Long, Closed}
-use Rattle.groups.proofs.Run.{run-within, run-more, run-ends, at-run, digits-take, digits-below, pow-up}
+use Rattle.groups.proofs.Run.{run-within, run-more, run-ends, at-run, digits-take, digits-take-below, pow-up}
 
 -- what the loop has done: the high bytes passed, what they sum to, and what the next one weighs
 pub record Going (s : List ℕ) (at place high sum weight : ℕ) : Type 0 where
@@ -41,11 +41,9 @@ module _ (s : List ℕ) (at : ℕ) where
 
   module _ {place high sum weight : ℕ} (g : Going s at place high sum weight) where
     -- the sum is below the weight, so that seven bits more stay below 128 times it
-    pub sum-below : sum < weight
+    sum-below : sum < weight
     sum-below =
-        let e : length (take high (drop at s)) ≡ high = length-take-le high (drop at s) (omega (arith, run-within (drop at s))) in
-        let h : digits (take high (drop at s)) < 128 ^ high = rw e at (digits-below (take high (drop at s))) in
-        omega arith
+        omega (arith, digits-take-below (drop at s) high (omega (arith, run-within (drop at s), g .passed)), g .sums, g .weighs)
 
     pub part-fits : (d : ℕ) → high < 9 → d < 128 → sum + weight * d < 2 ^ 63
     part-fits d h l =
@@ -63,30 +61,40 @@ module _ (s : List ℕ) (at : ℕ) where
       byte-there = byte place high (g .here)
 
       pub goes-on : 128 ≤ getD s place 0 → high < 9
-        → Going s at (place + 1) (high + 1) (sum + weight * (getD s place 0 % 128)) (weight * 128)
+          → Going s at (place + 1) (high + 1) (sum + weight * (getD s place 0 % 128)) (weight * 128)
       goes-on h f = record {
-          here = omega arith;
-          within = omega arith;
-          few = omega arith;
-          passed = rw add-one (run-more (drop at s) high (g .passed) (room place high (g .here) there) (rw byte-there h));
-          weighs = rw (add-one, g .weighs) (omega (arith, pow-succ' 128 high));
-          sums =
-              rw (digits-take (drop at s) high (room place high (g .here) there), byte-there, ← (g .sums), ← (g .weighs)) }
+        here = omega arith;
+        within = omega arith;
+        few = omega arith;
+        passed = rw add-one (run-more (drop at s) high (g .passed) (room place high (g .here) there) (rw byte-there h));
+        weighs = rw (add-one, g .weighs) (omega (arith, pow-succ' 128 high));
+        sums =
+            rw (digits-take (drop at s) high (room place high (g .here) there), byte-there, ← (g .sums), ← (g .weighs));
+      }
 
       pub closes : getD s place 0 < 128 → Walks s at (Closed sum weight high (getD s place 0))
       unfolding walked walking
       closes h =
           let e : run (drop at s) ≡ high = run-ends (drop at s) high (g .passed) (rw byte-there h) in
           let ne : high ≡ length (drop at s) → ⊥ = λ q. omega (arith, room place high (g .here) there) in
-          record { is =
-              rw (le-ltb (length s) at (omega arith), e, lt-leb 10 high (omega arith), ne-eqb high (length (drop at s)) ne, byte-there,
-              ← (g .sums), ← (g .weighs)) }
+          record {
+            is =
+                rw (
+                  le-ltb (length s) at (omega arith),
+                  e,
+                  lt-leb 10 high (omega arith),
+                  ne-eqb high (length (drop at s)) ne,
+                  byte-there,
+                  ← (g .sums),
+                  ← (g .weighs),
+                );
+          }
 
       pub overruns : 128 ≤ getD s place 0 → 8 < high → Walks s at Long
       unfolding walked walking
       overruns h f =
           let e : suc high ≤ run (drop at s) =
-              run-more (drop at s) high (g .passed) (room place high (g .here) there) (rw byte-there h) in
+          run-more (drop at s) high (g .passed) (room place high (g .here) there) (rw byte-there h) in
           record { is = rw (le-ltb (length s) at (omega arith), le-leb 10 (run (drop at s)) (omega arith)) }
 
     pub runs-dry : length s ≤ place → Walks s at (Open high)

@@ -1,18 +1,18 @@
 -- What the functions inside the crate ask and promise, over the width and over the bytes that are left.
 --
 --   Wide most top             a width whose numbers fit 64 bits
---   Reads most top s at r     reading at that width answers r
---   WritesRest v s at r out   the form of v is laid down at the place of s, r bytes, and leaves out
+--   ahead b a                 the answer a with the byte b of 128 or more in front: no number is 0 behind another byte
+--   Joins a                   a number that leaves room for seven bits more, or a refusal
+--   WritesRest v s at r out   the form of v is stored from the place of s on, r bytes, and leaves out
 --   Fits v s at left          the form of v has at most left bytes, and they fit
-use Prim.Native.Nat.{ℕ, _+_, _-_, _*_, _^_, _≤_, _<_}
+use Prim.Native.Nat.{ℕ, _+_, _-_, _*_, _%_, _^_, _≤_, _<_}
 use mathlib.Core.List.{List}
 use mathlib.Core.Path.{_≡_}
+use lib.Dec.{eqb}
 use lib.ListN.{length}
 use lib.Seq.{sets}
-use Rattle.groups.specs.Width.{read}
-use Rattle.uleb128.specs.Unsigned.{form, unsigned}
-use Rattle.uleb128.specs.Promise.{meaning64}
-use Rattle.uleb128.specs.declared.reading.ReadU64.{ReadU64}
+use Rattle.words.specs.Answer.{pick, Answer, gives, refused}
+use Rattle.uleb128.specs.Unsigned.{form}
 
 pub record Wide (most top : ℕ) : Type 0 where
   pub some : 1 < most
@@ -20,8 +20,13 @@ pub record Wide (most top : ℕ) : Type 0 where
   pub low : top < 128
   pub fits : 128 ^ (most - 1) * (top + 1) ≤ 2 ^ 64
 
-pub record Reads (most top : ℕ) (s : List ℕ) (at : ℕ) (r : ReadU64) : Type 0 where
-  pub is : meaning64 r ≡ read (unsigned most top) s at
+abbrev pub ahead : ℕ → Answer (ℕ × ℕ) → Answer (ℕ × ℕ)
+ahead b (gives p) = pick (eqb (p .0) 0) (refused 3) (gives (b % 128 + 128 * p .0, p .1 + 1))
+ahead b (refused k) = refused k
+
+abbrev pub Joins : Answer (ℕ × ℕ) → Type 0
+Joins (gives p) = (p .0 < 2 ^ 57) × (p .1 < 10)
+Joins (refused k) = Unit
 
 pub record WritesRest (v : ℕ) (s : List ℕ) (at r : ℕ) (out : List ℕ) : Type 0 where
   pub count : r ≡ length (form v)

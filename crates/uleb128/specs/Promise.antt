@@ -1,7 +1,8 @@
 -- What the functions of this crate promise.
 --
 --   meaning64, meaning32    what a reader's answer says: the number with its count of bytes, or the refusal's number
---   ReadsU64, ReadsU32      reading the bytes from the place at on answers r
+--   Reads w                 reading at the width w, of at most 64 bits, from the place at on answers r
+--   ReadsU64, ReadsU32      the same for the two widths
 --   WritesU64, WritesU32    writing v at the place of s answers r and leaves out
 --   LengthU64, LengthU32    the number takes r bytes
 use Prim.Native.Nat.{ℕ}
@@ -12,7 +13,7 @@ use Rattle.words.specs.Answer.{Answer, gives, refused}
 use Rattle.words.specs.Refusal.{numberOf}
 use Rattle.words.specs.declared.Count.{Count}
 use Rattle.words.specs.declared.Written.{Written}
-use Rattle.groups.specs.Width.{read}
+use Rattle.groups.specs.Width.{Width, read}
 use Rattle.groups.specs.Laying.{Lays}
 use Rattle.uleb128.specs.Unsigned.{form, u64, u32}
 use Rattle.uleb128.specs.declared.reading.ReadU64.{ReadU64}
@@ -28,8 +29,11 @@ abbrev pub meaning32 : ReadU32 → Answer (ℕ × ℕ)
 meaning32 (R32.Number v n) = gives (v, n .0)
 meaning32 (R32.Refused r) = refused (numberOf r)
 
-pub record ReadsU64 (s : List ℕ) (at : ℕ) (r : ReadU64) : Type 0 where
-  pub is : meaning64 r ≡ read u64 s at
+pub record Reads (w : Width ℕ) (s : List ℕ) (at : ℕ) (r : ReadU64) : Type 0 where
+  pub is : meaning64 r ≡ read w s at
+
+abbrev pub ReadsU64 : List ℕ → ℕ → ReadU64 → Type 0
+ReadsU64 s at r = Reads u64 s at r
 
 pub record ReadsU32 (s : List ℕ) (at : ℕ) (r : ReadU32) : Type 0 where
   pub is : meaning32 r ≡ read u32 s at

@@ -7,8 +7,9 @@ use words::Place;
 use words::Refusal;
 ghost use mathlib.Core.Path.{_≡_};
 ghost use Prim.Native.Nat.{_+_, _*_, _^_, _<_};
-ghost use Rattle.uleb128.specs.Inner.{Wide, Reads};
-ghost use Rattle.uleb128.specs.Promise.{ReadsU64, ReadsU32};
+ghost use Rattle.uleb128.specs.Inner.{Wide};
+ghost use Rattle.uleb128.specs.Unsigned.{unsigned};
+ghost use Rattle.uleb128.specs.Promise.{Reads, ReadsU64, ReadsU32};
 
 pub enum ReadU64 {
     Number(u64, Count),
@@ -32,7 +33,7 @@ fn number(sum: u64, weight: u64, high: usize, last: u8) -> ReadU64
 // A number of at most most bytes, whose last byte at that length is at most top.
 fn read_width(bytes: &[u8], start: Place, most: usize, top: u8) -> ReadU64
     requires { ⌜ Wide most top ⌝ }
-    ensures { λ r. ⌜ Reads most top (now (bytes .entry)) (start .0) r ⌝ }
+    ensures { λ r. ⌜ Reads (unsigned most top) (now (bytes .entry)) (start .0) r ⌝ }
 {
     match walk(bytes, start) {
         Walked::Past => ReadU64::Refused(Refusal::Place),
@@ -82,7 +83,10 @@ pub fn read_u32(bytes: &[u8], start: Place) -> ReadU32
     ensures { λ r. ⌜ ReadsU32 (now (bytes .entry)) (start .0) r ⌝ }
 {
     match read_width(bytes, start, 5, 15) {
-        ReadU64::Number(v, n) => ReadU32::Number(v as u32, n),
+        ReadU64::Number(v, n) => {
+            let narrow = v as u32;
+            ReadU32::Number(narrow, n)
+        }
         ReadU64::Refused(refusal) => ReadU32::Refused(refusal),
     }
 }

@@ -6,21 +6,29 @@ use words::Count;
 use words::Place;
 use words::Refusal;
 use words::Written;
-ghost use Prim.Native.Nat.{_<_, _≤_, _+_};
+ghost use mathlib.Core.Path.{_≡_};
+ghost use Prim.Native.Nat.{_<_, _≤_};
 ghost use lib.ListN.{length};
-ghost use Rattle.uleb128.specs.Promise.{ReadsU64, WritesU64};
-ghost use Rattle.uleb128.specs.Inner.{Reads, WritesRest, Fits};
+ghost use Rattle.uleb128.specs.Unsigned.{unsigned};
+ghost use Rattle.uleb128.specs.Promise.{meaning64, Reads, ReadsU64, WritesU64};
+ghost use Rattle.uleb128.specs.Inner.{Joins, ahead, WritesRest, Fits};
 
 // A byte of 128 or more, in front of what was read behind it: no number is 0 behind another byte.
 fn behind(b: u8, read: ReadU64) -> ReadU64
+    requires { ⌜ Joins (meaning64 read) ⌝ }
+    ensures { λ r. ⌜ meaning64 r ≡ ahead b (meaning64 read) ⌝ }
 {
     match read {
-        ReadU64::Number(v, n) => {
+        ReadU64::Number(v, count) => {
             if v < 1 {
                 return ReadU64::Refused(Refusal::NotShortest);
             }
             let low = (b % 128) as u64;
-            ReadU64::Number(low + 128 * v, Count(n.0 + 1))
+            let up = 128 * v;
+            let whole = low + up;
+            let more = count.0;
+            let n = more + 1;
+            ReadU64::Number(whole, Count(n))
         }
         ReadU64::Refused(refusal) => ReadU64::Refused(refusal),
     }
@@ -29,24 +37,28 @@ fn behind(b: u8, read: ReadU64) -> ReadU64
 // The number at the place, of at most left bytes.
 fn read_rest(bytes: &[u8], at: usize, left: usize) -> ReadU64
     requires { ⌜ (at ≤ length (now bytes)) × (0 < left) × (left ≤ 10) ⌝ }
-    ensures { λ r. ⌜ Reads left 1 (now (bytes .entry)) at r ⌝ }
+    ensures { λ r. ⌜ Reads (unsigned left 1) (now (bytes .entry)) at r ⌝ }
 {
     if bytes.len() <= at {
         return ReadU64::Refused(Refusal::End);
     }
     let b = bytes[at];
     if b < 128 {
-        if left < 2 {
-            if 1 < b {
-                return ReadU64::Refused(Refusal::Overflow);
-            }
+        let v = b as u64;
+        if 1 < left {
+            return ReadU64::Number(v, Count(1));
         }
-        return ReadU64::Number(b as u64, Count(1));
+        if 1 < b {
+            return ReadU64::Refused(Refusal::Overflow);
+        }
+        return ReadU64::Number(v, Count(1));
     }
     if left < 2 {
         return ReadU64::Refused(Refusal::Overflow);
     }
-    behind(b, read_rest(bytes, at + 1, left - 1))
+    let next = at + 1;
+    let fewer = left - 1;
+    behind(b, read_rest(bytes, next, fewer))
 }
 
 // The same answers as `read_u64`.
@@ -66,12 +78,17 @@ fn write_rest(v: u64, buffer: &mut [u8], at: usize, left: usize) -> usize
     ensures { λ r. ⌜ WritesRest v (now (buffer .entry)) at r (now (buffer .exit)) ⌝ }
 {
     if v < 128 {
-        buffer[at] = v as u8;
+        let byte = v as u8;
+        buffer[at] = byte;
         return 1;
     }
-    let more = write_rest(v / 128, buffer, at + 1, left - 1);
+    let next = at + 1;
+    let fewer = left - 1;
+    let up = v / 128;
+    let more = write_rest(up, buffer, next, fewer);
     let low = (v % 128) as u8;
-    buffer[at] = 128 + low;
+    let byte = 128 + low;
+    buffer[at] = byte;
     more + 1
 }
 

@@ -25,10 +25,11 @@ pub fn length_u64(v: u64) -> Count
     let mut i = 0;
     while i < 9 {
         let growth = GROWTH[i];
+        let n = i + 1;
         if v < growth {
-            return Count(i + 1);
+            return Count(n);
         }
-        i += 1;
+        i = n;
     }
     Count(10)
 }

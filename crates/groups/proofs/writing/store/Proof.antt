@@ -7,9 +7,6 @@ use denote.Ref.{now}
 use Rattle.groups.proofs.Storing.{Stored, none-stored, one-stored, all-stored, no-room, none-laid, length-groups, say-below}
 use Rattle.groups.proofs.writing.store.Statement.{statement}
 use Rattle.groups.proofs.writing.store.Tie as tie
-use Rattle.groups.proofs.writing.store.Reads as reads
-use Rattle.groups.proofs.writing.store.Lts as lts
-use Rattle.groups.proofs.writing.said.Reads as said-reads
 
 abbrev Inv-loop : tie.InvT-loop
 Inv-loop m below count buffer₀ at n room more rest₀ i₀ buffer rest i = Stored below more m buffer₀ at buffer rest i
