@@ -8,14 +8,10 @@ use borrow.Author.Tests.{lt-ltb, le-ltb, le-leb, lt-leb, eq-eqb, ne-eqb}
 use lib.Dec.{leb, ltb, eqb}
 use lib.ListN.{length, getD, take, drop}
 use Rattle.words.specs.Answer.{pick, both, Answer, gives, refused}
-use Rattle.words.proofs.Cases.{by-order}
+use Rattle.words.proofs.Cases.{by-order, both-false}
 use Rattle.groups.specs.Group.{run}
 use Rattle.groups.proofs.Run.{run-within}
 use Rattle.groups.specs.Width.{Width, runsOut, tooLarge, tooMany, reading, read}
-
-both-false : (t : Bool) → both t false ≡ false
-both-false true = refl
-both-false false = refl
 
 module _ {A : Type 0} (w : Width A) where
   runs-out : (l : List ℕ) → run l ≡ length l → run l < w .most → runsOut w l ≡ true

@@ -3,7 +3,7 @@ use Prim.Native.Nat.{ℕ, zero, suc, _+_, _-_, _*_, _%_, _^_, _≤_, _<_}
 use mathlib.Core.Path.{_≡_, refl, ap, sym, _∙_}
 use mathlib.Core.List.{List, [], _∷_, _++_}
 use mathlib.Core.Bool.{Bool, true, false}
-use native.Mathlib.Nat.{mul-assoc, pow-succ', pow-le-pow-right}
+use native.Mathlib.Nat.{mul-add, mul-assoc, mul-le-mul-left, pow-succ', pow-le-pow-right}
 use native.Mathlib.Numerals.{add-one}
 use native.Mathlib.Omega.{arith}
 use borrow.Author.Tests.{lt-ltb, le-ltb}
@@ -81,3 +81,20 @@ digits-take-below l i h = rw (length-take-le i l h) at (digits-below (take i l))
 
 pub pow-up : (i j : ℕ) → i ≤ j → 128 ^ i ≤ 128 ^ j
 pow-up i j h = pow-le-pow-right (omega arith) h
+
+-- low bytes that say less than the weight of a last one that says d: of at most k bytes in all, or of k + 1 with d at most top,
+-- they are below 128 to the k times top + 1
+pub limit : {low weight high d : ℕ} → low < weight → weight ≡ 128 ^ high → d < 128 → (k top : ℕ) → high ≤ k → (high ≡ k → d ≤ top)
+    → low + weight * d < 128 ^ k * (top + 1)
+limit {low} {weight} {high} {d} l e s k top h f =
+    by-order high k
+    (λ lt.
+    let a : weight * d ≤ weight * 127 = mul-le-mul-left weight (omega arith) in
+    let b : 128 ^ suc high ≤ 128 ^ k = pow-up (suc high) k lt in
+    let c : 128 ^ k * 1 ≤ 128 ^ k * (top + 1) = mul-le-mul-left (128 ^ k) (omega arith) in
+    omega (arith, pow-succ' 128 high))
+    (λ ge.
+    let q : high ≡ k = omega arith in
+    let p : weight ≡ 128 ^ k = e ∙ ap (λ (i : ℕ). 128 ^ i) q in
+    let a : weight * d ≤ weight * top = mul-le-mul-left weight (f q) in
+    rw (← p) (omega (arith, mul-add weight top 1)))

@@ -13,9 +13,11 @@ use native.Mathlib.Omega.{arith}
 use borrow.Author.Tests.{lt-ltb, le-ltb}
 use lib.Dec.{ltb}
 use lib.ListN.{length, getD}
+use Rattle.words.specs.declared.Written.{Written}
 use Rattle.words.proofs.Cases.{by-order}
 use Rattle.groups.specs.Group.{run, Group, one, more, digits}
 use Rattle.groups.specs.Form.{say, groups, spellings, spell}
+use Rattle.groups.specs.Laying.{Lays}
 use Rattle.groups.proofs.Run.{run-low, run-high, pow-up}
 use Rattle.groups.proofs.Storing.{say-below}
 
@@ -92,6 +94,12 @@ module _ {below : Bool} {small : ℕ} (small-low : small ≤ 128) where
   unfolding groups
   spelled-groups (last {m} p) = let e : m % 128 ≡ m = mod-eq-of-lt (omega arith) in rw e
   spelled-groups (byte {m} {g} p r) = rw (grown below (length g) m (some-bytes r), ← (spelled-groups r))
+
+  -- laying down as many groups of seven bits as it takes lays the spelling down
+  pub spelled-laid : {m n at : ℕ} {g s out : List ℕ} {r : Written} → Spelled below small m g → n ≡ length g
+      → Lays (groups below n m) s at r out → Lays g s at r out
+  spelled-laid {at = at} {s = s} {out = out} {r = r} p e h =
+      subst (λ (b : List ℕ). Lays b s at r out) (rw e (sym (spelled-groups p))) h
 
   -- k + 1 bytes are enough exactly for what is below small times 128 to the k
   pub short : {m : ℕ} {g : List ℕ} (k : ℕ) → Spelled below small m g → m < small * 128 ^ k → length g ≤ suc k

@@ -8,7 +8,7 @@ use Prim.Native.Nat.{ℕ, zero, suc, _+_, _-_, _*_, _%_, _^_, _≤_, _<_}
 use mathlib.Core.Path.{_≡_, refl, ap, sym, _∙_, subst}
 use mathlib.Core.List.{List}
 use mathlib.Core.Bool.{Bool, true, false}
-use native.Mathlib.Nat.{mod-eq-of-lt, mul-le-mul-left, mul-add, pow-succ'}
+use native.Mathlib.Nat.{mod-eq-of-lt}
 use native.Mathlib.Omega.{arith}
 use borrow.Author.Tests.{lt-ltb, le-ltb, le-leb, lt-leb, eq-eqb, ne-eqb}
 use lib.ListN.{length, getD, take, drop}
@@ -19,7 +19,7 @@ use Rattle.groups.specs.Width.{Width, reading, read}
 use Rattle.groups.specs.Promise.{walking, walked, Walks}
 use Rattle.groups.specs.declared.reading.Walked.{Walked}
 use Rattle.groups.specs.declared.reading.Walked.the-variants.{Past, Open, Long, Closed}
-use Rattle.groups.proofs.Run.{run-within, in-run, at-run, digits-take, digits-take-below, pow-up}
+use Rattle.groups.proofs.Run.{run-within, in-run, at-run, digits-take, digits-take-below, limit}
 use Rattle.groups.proofs.Rows.{row-end, row-large, row-many, row-number, read-past, read-from}
 
 pub record Sound {A : Type 0} (w : Width A) : Type 0 where
@@ -122,17 +122,5 @@ module _ {s : List ℕ} {at sum weight high last : ℕ} (c : Closing s at sum we
   pub closed-below : sum < weight
   closed-below = omega (arith, digits-take-below (drop at s) high (omega (arith, c .ends)), c .sums, c .weighs)
 
-  -- a group of at most k bytes, or of k + 1 with a last one of at most top, is below 128 to the k times top + 1
   pub closed-limit : (k top : ℕ) → high ≤ k → (high ≡ k → last ≤ top) → sum + weight * last < 128 ^ k * (top + 1)
-  closed-limit k top h f =
-      by-order high k
-      (λ l.
-      let a : weight * last ≤ weight * 127 = mul-le-mul-left weight (omega (arith, c .low)) in
-      let b : 128 ^ suc high ≤ 128 ^ k = pow-up (suc high) k l in
-      let d : 128 ^ k * 1 ≤ 128 ^ k * (top + 1) = mul-le-mul-left (128 ^ k) (omega arith) in
-      omega (arith, closed-below, c .weighs, pow-succ' 128 high))
-      (λ l.
-      let e : high ≡ k = omega arith in
-      let p : weight ≡ 128 ^ k = c .weighs ∙ ap (λ (i : ℕ). 128 ^ i) e in
-      let a : weight * last ≤ weight * top = mul-le-mul-left weight (f e) in
-      rw (← p) (omega (arith, closed-below, mul-add weight top 1)))
+  closed-limit = limit closed-below (c .weighs) (c .low)

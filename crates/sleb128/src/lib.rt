@@ -1,7 +1,7 @@
 // Signed LEB128 in its shortest form, as DWARF 5 has it: numbers of 64 bits in two's complement.
 //
-// With m for v, or for -v-1 below zero, a form's seven bits are those of m, or below zero 127 less those of m; it ends
-// where what is left of m is below 64, so that the last byte's bit of weight 64 tells the sign.
+// With m for v, or for -v-1 below zero, the seven bits of each byte are those of m, or below zero 127 less those of m. The
+// form ends where what is left of m is below 64, so that the last byte's bit of weight 64 tells the sign.
 use groups::Walked;
 use groups::store;
 use groups::walk;
@@ -10,16 +10,62 @@ use words::Count;
 use words::Place;
 use words::Refusal;
 use words::Written;
-ghost use Rattle.sleb128.specs.Promise.{ReadsI64, WritesI64, LengthI64};
+ghost use mathlib.Core.Path.{_≡_};
+ghost use Prim.Native.Nat.{_<_, _^_};
+ghost use lib.Signed.{mag};
+ghost use Rattle.sleb128.specs.Signed.{below as is-below, signed as signed-of};
+ghost use Rattle.sleb128.specs.Inner.{closing, Closes};
+ghost use Rattle.sleb128.specs.Promise.{meaning, ReadsI64, WritesI64, LengthI64};
 
 pub enum ReadI64 {
     Number(i64, Count),
     Refused(Refusal),
 }
 
+fn below_zero(v: i64) -> bool
+    ensures { λ r. ⌜ r ≡ is-below v ⌝ }
+{
+    v < 0
+}
+
 // v, or -v-1 below zero.
-fn magnitude(v: i64) -> u64 {
+fn magnitude(v: i64) -> u64
+    ensures { λ r. ⌜ r ≡ mag v ⌝ }
+{
     if v < 0 { (!v) as u64 } else { v as u64 }
+}
+
+// m, or -m-1 below zero.
+fn signed(m: u64, below: bool) -> i64
+    requires { ⌜ m < 2 ^ 63 ⌝ }
+    ensures { λ r. ⌜ r ≡ signed-of below m ⌝ }
+{
+    let v = m as i64;
+    if below { !v } else { v }
+}
+
+// The number of a group whose high bytes say low and whose last byte says bits: below zero, both are complements.
+fn closed(low: u64, weight: u64, high: usize, bits: u8, below: bool) -> ReadI64
+    requires { ⌜ Closes low weight high bits ⌝ }
+    ensures { λ r. ⌜ meaning r ≡ closing below low weight high bits ⌝ }
+{
+    let n = high + 1;
+    if 0 < bits {
+        if 8 < high {
+            return ReadI64::Refused(Refusal::Overflow);
+        }
+        let part = weight * (bits as u64);
+        let m = low + part;
+        return ReadI64::Number(signed(m, below), Count(n));
+    }
+    if high < 1 {
+        return ReadI64::Number(signed(low, below), Count(n));
+    }
+    let twice = low * 2;
+    if twice < weight {
+        return ReadI64::Refused(Refusal::NotShortest);
+    }
+    ReadI64::Number(signed(low, below), Count(n))
 }
 
 // The number whose shortest form stands at the start, with its count of bytes; else 4, 1, 2 or 3.
@@ -35,53 +81,30 @@ pub fn read_i64(bytes: &[u8], start: Place) -> ReadI64
             weight,
             high,
             last,
-        } => read_closed(sum, weight, high, last),
+        } => {
+            if last < 64 {
+                return closed(sum, weight, high, last, false);
+            }
+            let up = weight - 1;
+            let low = up - sum;
+            let bits = 127 - last;
+            closed(low, weight, high, bits, true)
+        }
     }
 }
 
-fn read_closed(sum: u64, weight: u64, high: usize, last: u8) -> ReadI64 {
-    if last < 64 {
-        if 8 < high {
-            if 0 < last {
-                return ReadI64::Refused(Refusal::Overflow);
-            }
-        }
-        if last < 1 {
-            if 0 < high {
-                if sum * 2 < weight {
-                    return ReadI64::Refused(Refusal::NotShortest);
-                }
-            }
-        }
-        let m = sum + weight * (last as u64);
-        return ReadI64::Number(m as i64, Count(high + 1));
-    }
-    if 8 < high {
-        if last < 127 {
-            return ReadI64::Refused(Refusal::Overflow);
-        }
-    }
-    if 126 < last {
-        if 0 < high {
-            if weight <= sum * 2 {
-                return ReadI64::Refused(Refusal::NotShortest);
-            }
-        }
-    }
-    let m = (weight - 1 - sum) + weight * ((127 - last) as u64);
-    ReadI64::Number(!(m as i64), Count(high + 1))
+// How many bytes the number takes: 1 to 10. Its bit of sign makes it as long as twice its magnitude is unsigned.
+pub fn length_i64(v: i64) -> Count
+    ensures { λ r. ⌜ LengthI64 v r ⌝ }
+{
+    let m = magnitude(v);
+    let twice = m * 2;
+    length_u64(twice)
 }
 
 // Lays the number's form down at the place and answers its count of bytes; else 5, and no byte is changed.
 pub fn write_i64(v: i64, buffer: &mut [u8], place: Place) -> Written
     ensures { λ r. ⌜ WritesI64 v (now (buffer .entry)) (place .0) r (now (buffer .exit)) ⌝ }
 {
-    store(magnitude(v), v < 0, length_i64(v), buffer, place)
-}
-
-// How many bytes the number takes: 1 to 10.
-pub fn length_i64(v: i64) -> Count
-    ensures { λ r. ⌜ LengthI64 v r ⌝ }
-{
-    length_u64(magnitude(v) * 2)
+    store(magnitude(v), below_zero(v), length_i64(v), buffer, place)
 }

@@ -1,4 +1,4 @@
--- Laws of the unsigned form: document 01's two sentences, its length, and its bytes as groups of seven bits.
+-- Laws of the unsigned form: document 01's two sentences, and its length.
 use Prim.Native.Nat.{ℕ, zero, suc, _+_, _-_, _*_, _/_, _%_, _^_, _≤_, _<_}
 use mathlib.Core.Path.{_≡_, refl, ap, sym, _∙_, subst}
 use mathlib.Core.List.{List, [], _∷_}
@@ -8,10 +8,7 @@ use native.Mathlib.Numerals.{add-one}
 use native.Mathlib.Omega.{arith}
 use lib.ListN.{length}
 use Rattle.words.proofs.Cases.{by-order}
-use Rattle.words.specs.declared.Written.{Written}
-use Rattle.groups.specs.Form.{groups}
-use Rattle.groups.specs.Laying.{Lays}
-use Rattle.groups.proofs.Spelling.{Spelled, last, byte, spelled, unique, some-bytes, short, small-enough, spelled-groups}
+use Rattle.groups.proofs.Spelling.{Spelled, last, byte, spelled, unique, some-bytes, short, small-enough}
 use Rattle.uleb128.specs.Unsigned.{form}
 
 pow-more : (k : ℕ) → 128 ^ (k + 1) ≡ 128 * 128 ^ k
@@ -27,9 +24,6 @@ form-small v h = unique (form-spelled v) (last h)
 pub form-large : (v : ℕ) → 128 ≤ v → form v ≡ (128 + v % 128) ∷ form (v / 128)
 form-large v h = unique (form-spelled v) (byte h (form-spelled (v / 128)))
 
-pub form-groups : (v : ℕ) → form v ≡ groups false (length (form v)) v
-form-groups v = spelled-groups (omega arith) (form-spelled v)
-
 pub form-some : (v : ℕ) → 0 < length (form v)
 form-some v = some-bytes (form-spelled v)
 
@@ -41,8 +35,3 @@ pub form-long : (v k : ℕ) → 128 ^ (k + 1) ≤ v → k + 1 < length (form v)
 form-long v k h =
     by-order (k + 1) (length (form v)) (λ l. l)
     (λ l. absurd (omega (arith, small-enough (omega arith) k (form-spelled v) (omega arith), pow-more k)))
-
--- as many groups of seven bits as the form has bytes are the form
-pub form-laid : (v : ℕ) {n at : ℕ} {s out : List ℕ} {r : Written} → n ≡ length (form v) → Lays (groups false n v) s at r out → Lays (form v) s at r out
-form-laid v {n} {at} {s} {out} {r} e h =
-    subst (λ (b : List ℕ). Lays b s at r out) (rw e (sym (form-groups v))) h

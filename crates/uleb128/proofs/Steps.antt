@@ -12,7 +12,7 @@ use lib.Dec.{leb, ltb, eqb, leb·suc-suc, eqb·suc-suc}
 use lib.ListN.{length, getD, take, drop, set, drop-of-length-le, List·getD-eq-default}
 use lib.Seq.{sets, drop-cons, set-comm}
 use Rattle.words.specs.Answer.{pick, both, Answer, gives, refused}
-use Rattle.words.proofs.Cases.{by-order}
+use Rattle.words.proofs.Cases.{by-order, both-false}
 use Rattle.words.specs.Refusal.{numberOf}
 use Rattle.words.specs.declared.Count.{Count}
 use Rattle.words.specs.declared.Refusal.{Refusal}
@@ -30,10 +30,6 @@ use Rattle.uleb128.specs.declared.reading.ReadU64.{ReadU64}
 use Rattle.uleb128.specs.declared.reading.ReadU64.the-variants.{Number, Refused}
 use Rattle.uleb128.proofs.Widths.{sound}
 use Rattle.uleb128.proofs.Exactly.{number-under}
-
-both-false : (t : Bool) → both t false ≡ false
-both-false true = refl
-both-false false = refl
 
 -- a number that is one byte 0
 zero-alone : (l : List ℕ) → run l ≡ 0 → getD l (run l) 0 ≡ 0 → digits (take (run l + 1) l) ≡ 0

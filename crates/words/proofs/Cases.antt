@@ -1,13 +1,15 @@
--- Cases on numbers.
+-- Cases on numbers and tests.
 --
 --   below-or-not   a number is below another, or not
 --   by-order       a thing from either case
+--   both-false     two tests of which the second fails
 use Prim.Native.Nat.{ℕ, _≤_, _<_}
 use mathlib.Core.Bool.{Bool, true, false}
 use mathlib.Core.Path.{_≡_, refl}
 use mathlib.Core.Logic.{_⊎_, inl, inr, ⊎-elim}
 use lib.Dec.{ltb}
 use borrow.Author.Tests.{ltb-true, ltb-false}
+use Rattle.words.specs.Answer.{both}
 
 pub below-or-not : (a b : ℕ) → (a < b) ⊎ (b ≤ a)
 below-or-not a b = go (ltb a b) refl
@@ -18,3 +20,7 @@ below-or-not a b = go (ltb a b) refl
 
 pub by-order : {P : Type 0} (a b : ℕ) → (a < b → P) → (b ≤ a → P) → P
 by-order a b f g = ⊎-elim f g (below-or-not a b)
+
+pub both-false : (t : Bool) → both t false ≡ false
+both-false true = refl
+both-false false = refl

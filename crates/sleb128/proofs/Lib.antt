@@ -1,0 +1,4 @@
+pub mod Bits
+pub mod Closings
+pub mod Widths
+pub mod Forms

@@ -1,0 +1,3 @@
+pub mod Signed
+pub mod Promise
+pub mod Inner
