@@ -43,6 +43,23 @@ say-high below d h =
     let e : (128 + say below d) % 128 ≡ say below d = omega (arith, say-below below d h) in
     rw e (say-say below d h)
 
+-- a group says its last byte's number times the weight of that byte, and less than one more
+pub group-bounds : (below : Bool) {g : List ℕ} → Group g
+  → (128 ^ run g * say below (getD g (run g) 0) ≤ said below g) × (said below g < 128 ^ run g * (say below (getD g (run g) 0) + 1))
+unfolding said
+group-bounds below (one {b} p) = rw (run-low b [] p, mod-eq-of-lt p) (omega arith)
+group-bounds below (more {b} {g} h l r) =
+    let d = say below (getD g (run g) 0) in
+    let s : say below (b % 128) < 128 = say-below below (b % 128) (omega arith) in
+    rw (run-high b g h, pow-succ' 128 (run g))
+    (omega (arith, group-bounds below r, mul-assoc 128 (128 ^ run g) d, mul-assoc 128 (128 ^ run g) (d + 1)))
+
+-- the two signs of a group make up all its bits
+pub complements : (g : List ℕ) → said false g + said true g + 1 ≡ 128 ^ length g
+unfolding said
+complements [] = refl
+complements (b ∷ g) = omega (arith, complements g, pow-succ' 128 (length g))
+
 pub data Spelled (below : Bool) (small : ℕ) : ℕ → List ℕ → Type 0 where
   last : {m : ℕ} → m < small → Spelled below small m (say below m ∷ [])
   byte : {m : ℕ} {g : List ℕ} → small ≤ m → Spelled below small (m / 128) g → Spelled below small m ((128 + say below (m % 128)) ∷ g)
@@ -116,13 +133,8 @@ module _ {below : Bool} {small : ℕ} (small-low : small ≤ 128) where
 
   -- the last byte says what is left behind the others
   pub last-bounds : {m : ℕ} {g : List ℕ} → Spelled below small m g
-      → (128 ^ run g * say below (getD g (run g) 0) ≤ m) × (m < 128 ^ run g * (say below (getD g (run g) 0) + 1))
-  last-bounds (last {m} p) =
-      rw (run-low (say below m) [] (say-below below m (omega arith)), say-say below m (omega arith)) (omega arith)
-  last-bounds (byte {m} {g} p r) =
-      let b = say below (getD g (run g) 0) in
-      rw (run-high (128 + say below (m % 128)) g (omega arith), pow-succ' 128 (run g))
-      (omega (arith, last-bounds r, mul-assoc 128 (128 ^ run g) b, mul-assoc 128 (128 ^ run g) (b + 1)))
+    → (128 ^ run g * say below (getD g (run g) 0) ≤ m) × (m < 128 ^ run g * (say below (getD g (run g) 0) + 1))
+  last-bounds p = rw (spelled-said p) at (group-bounds below (spelled-group p))
 
   pub last-small : {m : ℕ} {g : List ℕ} → Spelled below small m g → say below (getD g (run g) 0) < small
   last-small (last {m} p) = rw (run-low (say below m) [] (say-below below m (omega arith)), say-say below m (omega arith)) p

@@ -2,3 +2,4 @@ pub mod Bits
 pub mod Closings
 pub mod Widths
 pub mod Forms
+pub mod Exactly
