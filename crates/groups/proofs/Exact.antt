@@ -14,7 +14,7 @@ use borrow.Author.Tests.{le-leb, lt-leb, lt-ltb, le-ltb}
 use lib.Dec.{leb, ltb}
 use lib.ListN.{length, getD}
 use Rattle.words.specs.Answer.{both}
-use Rattle.words.proofs.Cases.{by-order}
+use Rattle.words.proofs.Cases.{by-order, by-test, clash}
 use Rattle.groups.specs.Group.{run, Group, one, more}
 use Rattle.groups.specs.Form.{say, spell}
 use Rattle.groups.specs.Width.{Width, tooLarge, tooMany}
@@ -22,7 +22,7 @@ use Rattle.groups.proofs.Run.{run-low, run-high, in-run, at-run, pow-up
 use Rattle.groups.proofs.Rows.{too-large, not-large, first-not-many}
 use Rattle.groups.proofs.Walks.{Sound}
 use Rattle.groups.proofs.Storing.{say-below}
-use Rattle.groups.proofs.Spelling.{said, say-say, say-high, Spelled, last, byte, spelled, unique, short, last-bounds, last-small, spelled-group}
+use Rattle.groups.proofs.Spelling.{said, say-say, say-high, Spelled, last, byte, spelled, unique, times-more, short, last-bounds, last-small, spelled-group}
 
 pub group-length : {g : List ℕ} → Group g → length g ≡ suc (run g)
 group-length (one {b} p) = rw (run-low b [] p)
@@ -134,7 +134,7 @@ module _ {A : Type 0} {w : Width A} {below : Bool} {small top : ℕ} (k : Spells
 
     not-large-below : tooLarge w g ≡ false → m < 128 ^ (w .most - 1) * (top + 1)
     not-large-below e =
-        by-order m (128 ^ (w .most - 1) * (top + 1)) (λ l. l) (λ l. let t = limit-large l in let z : _≡_ {A = ℕ} 0 1 = cc in absurd (omega arith))
+        by-order m (128 ^ (w .most - 1) * (top + 1)) (λ l. l) (λ l. clash e (limit-large l))
 
   -- a group with a last byte that could end it, and none too many, is spelled
   recognized : {g : List ℕ} → Group g → say below (getD g (run g) 0) < small → tooMany w g ≡ false → Spelled below small (said below g) g
@@ -156,3 +156,32 @@ module _ {A : Type 0} {w : Width A} {below : Bool} {small top : ℕ} (k : Spells
   accepted {g} r h e t =
       let s : Spelled below small (said below g) g = recognized r h t in
       (unique s (spelled below small (k .some) (said below g)), not-large-below s e)
+
+  -- with a last byte that is one too many, one byte fewer would do
+  too-many-small : {g : List ℕ} → Group g → say below (getD g (run g) 0) < small → tooMany w g ≡ true
+    → (0 < run g) × (said below g < small * 128 ^ (run g - 1))
+  unfolding said
+  too-many-small (one {b} p) h t = clash (first-not-many w (b ∷ []) (run-low b [] p)) t
+  too-many-small (more {b} hi l (one {b = c} p)) h t =
+      let e : c % 128 ≡ c = mod-eq-of-lt p in
+      let q : say below c < small = rw (run-high b (c ∷ []) hi, run-low c [] p) at h in
+      rw (run-high b (c ∷ []) hi, run-low c [] p, e)
+      (by-order (say below (b % 128) + 128 * say below c) small (λ lt. (omega arith, omega arith))
+      (λ ge. clash (many-two w b c hi p ∙ k .needed b c p q .1 ge) t))
+  too-many-small (more {b} hi l (more {b = c} {g = g} hi′ l′ r)) h t =
+      let n = run-high b (c ∷ g) hi in
+      let ih = too-many-small (more hi′ l′ r) (rw n at h) (sym (many-more w b c g hi hi′) ∙ t) in
+      let i : suc (run (c ∷ g)) - 1 ≡ suc (run (c ∷ g) - 1) = omega (arith, ih .0) in
+      let d : say below (b % 128) < 128 = say-below below (b % 128) (omega arith) in
+      rw (n, i) (omega arith, omega (arith, ih .1, times-more small (run (c ∷ g) - 1)))
+
+  -- one too many: exactly where the shortest spelling of the same number is shorter
+  pub longer : {g : List ℕ} → Group g → say below (getD g (run g) 0) < small
+    → (tooMany w g ≡ true) ↔ (length (spell below small (said below g)) < length g)
+  longer {g} r h =
+      (λ t.
+      let q = too-many-small r h t in
+      omega (arith, group-length r, q .0, short (k .low) (run g - 1) (spelled below small (k .some) (said below g)) (q .1)),
+      λ l. by-test (tooMany w g) (λ e. e) (λ e.
+      let f : g ≡ spell below small (said below g) = unique (recognized r h e) (spelled below small (k .some) (said below g)) in
+      let n : length g ≡ length (spell below small (said below g)) = ap length f in absurd (omega arith)))

@@ -4,11 +4,11 @@ use mathlib.Core.Path.{_≡_, refl, ap, sym, _∙_}
 use mathlib.Core.List.{List}
 use mathlib.Core.Bool.{Bool, true, false, not}
 use native.Mathlib.Omega.{arith}
-use borrow.Author.Tests.{lt-ltb, le-ltb, le-leb, lt-leb, eq-eqb, ne-eqb}
+use borrow.Author.Tests.{lt-ltb, le-ltb, le-leb, lt-leb, eq-eqb, ne-eqb, leb-true, ltb-true, not-true}
 use lib.Dec.{leb, ltb, eqb}
 use lib.ListN.{length, getD, take, drop}
 use Rattle.words.specs.Answer.{pick, both, Answer, gives, refused}
-use Rattle.words.proofs.Cases.{by-order, both-false}
+use Rattle.words.proofs.Cases.{by-order, both-false, both-true}
 use Rattle.groups.specs.Group.{run}
 use Rattle.groups.proofs.Run.{run-within}
 use Rattle.groups.specs.Width.{Width, runsOut, tooLarge, tooMany, reading, read}
@@ -40,7 +40,7 @@ module _ {A : Type 0} (w : Width A) where
   unfolding tooLarge
   allowed-not-large l e = rw e (both-false (leb (w .most) (run l + 1)))
 
-  too-many : (l : List ℕ) → 0 < run l → w .extra (getD l (run l - 1) 0) (getD l (run l) 0) ≡ true → tooMany w l ≡ true
+  pub too-many : (l : List ℕ) → 0 < run l → w .extra (getD l (run l - 1) 0) (getD l (run l) 0) ≡ true → tooMany w l ≡ true
   unfolding tooMany
   too-many l h e = rw (lt-ltb 0 (run l) h, e)
 
@@ -59,6 +59,18 @@ module _ {A : Type 0} (w : Width A) where
   not-large l h f =
       by-order (run l + 1) (w .most) (λ s. short-not-large l s)
       (λ s. let e : run l + 1 ≡ w .most = omega arith in let i : w .most - 1 ≡ run l = omega arith in allowed-not-large l (rw i (f e)))
+
+  -- and from the tests
+  pub large-is : (l : List ℕ) → tooLarge w l ≡ true → (w .most ≤ run l + 1) × (w .allowed (getD l (w .most - 1) 0) ≡ false)
+  unfolding tooLarge
+  large-is l e =
+      let p = both-true (leb (w .most) (run l + 1)) (not (w .allowed (getD l (w .most - 1) 0))) e in
+      (leb-true (w .most) (run l + 1) (p .0), not-true (w .allowed (getD l (w .most - 1) 0)) (p .1))
+
+  pub many-is : (l : List ℕ) → tooMany w l ≡ true → (0 < run l) × (w .extra (getD l (run l - 1) 0) (getD l (run l) 0) ≡ true)
+  unfolding tooMany
+  many-is l e =
+      let p = both-true (ltb 0 (run l)) (w .extra (getD l (run l - 1) 0) (getD l (run l) 0)) e in (ltb-true 0 (run l) (p .0), p .1)
 
   -- row 1: fewer bytes than the most, and each is 128 or more
   pub row-end : (l : List ℕ) → run l ≡ length l → run l < w .most → reading w l ≡ refused 1

@@ -91,7 +91,7 @@ unfolding groups
 grown below zero m h = absurd (omega arith)
 grown below (suc n) m h = refl
 
-times-more : (a k : ℕ) → a * 128 ^ suc k ≡ 128 * (a * 128 ^ k)
+pub times-more : (a k : ℕ) → a * 128 ^ suc k ≡ 128 * (a * 128 ^ k)
 times-more a k = rw (pow-succ' 128 k) (mul-left-comm a 128 (128 ^ k))
 
 module _ {below : Bool} {small : ℕ} (small-low : small ≤ 128) where

@@ -12,7 +12,7 @@ use native.Mathlib.Omega.{arith}
 use lib.ListN.{length, getD, take, drop, take-append-drop, length-append, List·getD-append}
 use lib.Seq.{take-append-seam, getD-drop}
 use Rattle.words.specs.Answer.{pick, Answer, gives, refused}
-use Rattle.words.proofs.Cases.{by-order}
+use Rattle.words.proofs.Cases.{by-order, clash}
 use Rattle.groups.specs.Group.{Bytes, run, Group, one, more}
 use Rattle.groups.specs.Width.{Width, runsOut, tooLarge, tooMany, reading, read}
 use Rattle.groups.proofs.Run.{run-low, run-high, run-within, in-run}
@@ -47,7 +47,7 @@ module _ {A : Type 0} (w : Width A) {g : List ℕ} (rest : List ℕ) (r : Group 
   same-byte : (i : ℕ) → i ≤ run g → getD (g ++ rest) i 0 ≡ getD g i 0
   same-byte i h = List·getD-append g rest 0 i (omega (arith, group-length r))
 
-  large-behind : tooLarge w (g ++ rest) ≡ tooLarge w g
+  pub large-behind : tooLarge w (g ++ rest) ≡ tooLarge w g
   unfolding tooLarge
   large-behind =
       by-order (run g + 1) (w .most)
@@ -81,19 +81,19 @@ module _ {A : Type 0} (w : Width A) (s : List ℕ) (at : ℕ) where
       read-from w s at (g .here) ∙ rw (g .begins, behind w (g .rest) (g .is-group), g .not-large, g .not-many, g .value, g .count)
 
   module _ (sound : Sound w) (bytes : Bytes s) {v : A} {n : ℕ} (e : read w s at ≡ gives (v, n)) where
-    clash : {X : Type 0} {k : ℕ} → read w s at ≡ refused k → X
-    clash q = let z : _≡_ {A = ℕ} 0 1 = cc in absurd (omega arith)
+    apart : {X : Type 0} {k : ℕ} → read w s at ≡ refused k → X
+    apart q = let z : _≡_ {A = ℕ} 0 1 = cc in absurd (omega arith)
 
     stands-here : at ≤ length s
-    stands-here = by-order (length s) at (λ l. clash (read-past w s at l)) (λ l. l)
+    stands-here = by-order (length s) at (λ l. apart (read-past w s at l)) (λ l. l)
 
     stands-closed : run (drop at s) < length (drop at s)
     stands-closed =
         by-order (run (drop at s)) (length (drop at s)) (λ l. l)
         (λ l.
         by-order (run (drop at s)) (w .most)
-        (λ m. clash (read-from w s at stands-here ∙ row-end w (drop at s) (omega (arith, run-within (drop at s))) m))
-        (λ m. clash (overrun w sound s at stands-here m)))
+        (λ m. apart (read-from w s at stands-here ∙ row-end w (drop at s) (omega (arith, run-within (drop at s))) m))
+        (λ m. apart (overrun w sound s at stands-here m)))
 
     bytes-from : Bytes (drop at s)
     bytes-from i = rw (getD-drop at s i 0) (bytes (at + i))
@@ -128,6 +128,5 @@ count-within w {n = n} sound g =
     let t : tooLarge w (g .group) ≡ true =
     too-large w (g .group) (omega (arith, g .count)) (sound .low (getD (g .group) (w .most - 1) 0)
     (in-run (g .group) (w .most - 1) (omega (arith, g .count, sound .some)))) in
-    let f : tooLarge w (g .group) ≡ false = g .not-large in
-    let z : _≡_ {A = ℕ} 0 1 = cc in absurd (omega arith))
+    clash (g .not-large) t)
     (λ l. l)

@@ -2,8 +2,8 @@
 --
 --   meaning64, meaning32    what a reader's answer says: the number with its count of bytes, or the refusal's number
 --   Reads w                 reading at the width w, of at most 64 bits, from the place at on answers r
---   ReadsU64, ReadsU32      the same for the two widths
---   WritesU64, WritesU32    writing v at the place of s answers r and leaves out
+--   ReadsU64, ReadsU64Rec, ReadsU32      the same for each reader
+--   WritesU64, WritesU64Rec, WritesU32   writing v at the place of s answers r and leaves out
 --   LengthU64, LengthU32    the number takes r bytes
 use Prim.Native.Nat.{ℕ}
 use mathlib.Core.List.{List}
@@ -35,11 +35,17 @@ pub record Reads (w : Width ℕ) (s : List ℕ) (at : ℕ) (r : ReadU64) : Type 
 abbrev pub ReadsU64 : List ℕ → ℕ → ReadU64 → Type 0
 ReadsU64 s at r = Reads u64 s at r
 
+abbrev pub ReadsU64Rec : List ℕ → ℕ → ReadU64 → Type 0
+ReadsU64Rec s at r = Reads u64 s at r
+
 pub record ReadsU32 (s : List ℕ) (at : ℕ) (r : ReadU32) : Type 0 where
   pub is : meaning32 r ≡ read u32 s at
 
 abbrev pub WritesU64 : ℕ → List ℕ → ℕ → Written → List ℕ → Type 0
 WritesU64 v s at r out = Lays (form v) s at r out
+
+abbrev pub WritesU64Rec : ℕ → List ℕ → ℕ → Written → List ℕ → Type 0
+WritesU64Rec v s at r out = Lays (form v) s at r out
 
 abbrev pub WritesU32 : ℕ → List ℕ → ℕ → Written → List ℕ → Type 0
 WritesU32 v s at r out = Lays (form v) s at r out

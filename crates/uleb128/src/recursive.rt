@@ -10,7 +10,7 @@ ghost use mathlib.Core.Path.{_≡_};
 ghost use Prim.Native.Nat.{_<_, _≤_};
 ghost use lib.ListN.{length};
 ghost use Rattle.uleb128.specs.Unsigned.{unsigned};
-ghost use Rattle.uleb128.specs.Promise.{meaning64, Reads, ReadsU64, WritesU64};
+ghost use Rattle.uleb128.specs.Promise.{meaning64, Reads, ReadsU64Rec, WritesU64Rec};
 ghost use Rattle.uleb128.specs.Inner.{Joins, ahead, WritesRest, Fits};
 
 // A byte of 128 or more, in front of what was read behind it: no number is 0 behind another byte.
@@ -63,7 +63,7 @@ fn read_rest(bytes: &[u8], at: usize, left: usize) -> ReadU64
 
 // The same answers as `read_u64`.
 pub fn read_u64_rec(bytes: &[u8], start: Place) -> ReadU64
-    ensures { λ r. ⌜ ReadsU64 (now (bytes .entry)) (start .0) r ⌝ }
+    ensures { λ r. ⌜ ReadsU64Rec (now (bytes .entry)) (start .0) r ⌝ }
 {
     let at = start.0;
     if bytes.len() < at {
@@ -94,7 +94,7 @@ fn write_rest(v: u64, buffer: &mut [u8], at: usize, left: usize) -> usize
 
 // The same answers as `write_u64`, and the same bytes.
 pub fn write_u64_rec(v: u64, buffer: &mut [u8], place: Place) -> Written
-    ensures { λ r. ⌜ WritesU64 v (now (buffer .entry)) (place .0) r (now (buffer .exit)) ⌝ }
+    ensures { λ r. ⌜ WritesU64Rec v (now (buffer .entry)) (place .0) r (now (buffer .exit)) ⌝ }
 {
     let at = place.0;
     let needed = length_u64(v);

@@ -1,0 +1,99 @@
+-- An answer is determined by what it means.
+use Prim.Native.Nat.{ℕ}
+use mathlib.Core.Path.{_≡_, refl, ap, sym, _∙_}
+use mathlib.Core.Bool.{Bool, true, false}
+use native.Mathlib.Omega.{arith}
+use lib.Dec.{eqb}
+use lib.IntN.{ℤ}
+use Rattle.words.specs.Answer.{pick, Answer, gives, refused, meaning}
+use Rattle.words.specs.Refusal.{numberOf}
+use Rattle.words.specs.declared.Count.{Count}
+use Rattle.words.specs.declared.Refusal.{Refusal}
+use Rattle.words.specs.declared.Refusal.the-variants.{End, Overflow, NotShortest, Place, NoRoom, NotAStart, TooLong, NoStart}
+use Rattle.words.specs.declared.Written.{Written}
+use Rattle.words.specs.declared.Written.the-variants as W
+use Rattle.uleb128.specs.Promise.{meaning64, meaning32}
+use Rattle.uleb128.specs.declared.reading.ReadU64.{ReadU64}
+use Rattle.uleb128.specs.declared.reading.ReadU64.the-variants as R64
+use Rattle.uleb128.specs.declared.reading.ReadU32.{ReadU32}
+use Rattle.uleb128.specs.declared.reading.ReadU32.the-variants as R32
+use Rattle.sleb128.specs.Promise.{meaning as meaningI64}
+use Rattle.sleb128.specs.declared.ReadI64.{ReadI64}
+use Rattle.sleb128.specs.declared.ReadI64.the-variants as RI64
+
+-- the refusal of a number
+abbrev refusalOf : ℕ → Refusal
+refusalOf n =
+    pick (eqb n 1) End (pick (eqb n 2) Overflow (pick (eqb n 3) NotShortest (pick (eqb n 4) Place
+    (pick (eqb n 5) NoRoom (pick (eqb n 6) NotAStart (pick (eqb n 7) TooLong NoStart))))))
+
+refusal-back : (a : Refusal) → refusalOf (numberOf a) ≡ a
+refusal-back End = refl
+refusal-back Overflow = refl
+refusal-back NotShortest = refl
+refusal-back Place = refl
+refusal-back NoRoom = refl
+refusal-back NotAStart = refl
+refusal-back TooLong = refl
+refusal-back NoStart = refl
+
+pub same-refusal : (a b : Refusal) → numberOf a ≡ numberOf b → a ≡ b
+same-refusal a b e = sym (refusal-back a) ∙ ap refusalOf e ∙ refusal-back b
+
+-- answers of two kinds are never equal
+pub apart : {A X : Type 0} {a : A} {k : ℕ} → _≡_ {A = Answer A} (gives a) (refused k) → X
+apart e = let z : _≡_ {A = ℕ} 0 1 = cc in absurd (omega arith)
+
+pub refused-same : {A : Type 0} {a b : Refusal} → _≡_ {A = Answer A} (refused (numberOf a)) (refused (numberOf b)) → a ≡ b
+refused-same {A} {a} {b} e = same-refusal a b (cc)
+
+-- the parts of a number that was given
+pub given-value : {A : Type 0} {a b : A} {m n : ℕ} → _≡_ {A = Answer (A × ℕ)} (gives (a, m)) (gives (b, n)) → a ≡ b
+given-value {A} {a} {b} {m} {n} e = let q : _≡_ {A = A × ℕ} (a, m) (b, n) = cc in ap (λ (x : A × ℕ). x .0) q
+
+pub given-count : {A : Type 0} {a b : A} {m n : ℕ} → _≡_ {A = Answer (A × ℕ)} (gives (a, m)) (gives (b, n)) → m ≡ n
+given-count {A} {a} {b} {m} {n} e = let q : _≡_ {A = A × ℕ} (a, m) (b, n) = cc in ap (λ (x : A × ℕ). x .1) q
+
+-- what has a way back from its meaning is determined by it
+same-by : {A R : Type 0} (means : R → A) (back : A → R) → ((r : R) → back (means r) ≡ r) → (r r′ : R) → means r ≡ means r′ → r ≡ r′
+same-by means back is r r′ e = sym (is r) ∙ ap back e ∙ is r′
+
+pub same-written : (r r′ : Written) → meaning r ≡ meaning r′ → r ≡ r′
+same-written = same-by meaning back is
+  where
+    back : Answer ℕ → Written
+    back (gives n) = W.Bytes (record { 0 = n })
+    back (refused k) = W.Refused (refusalOf k)
+    is : (r : Written) → back (meaning r) ≡ r
+    is (W.Bytes n) = refl
+    is (W.Refused a) = ap W.Refused (refusal-back a)
+
+pub same64 : (r r′ : ReadU64) → meaning64 r ≡ meaning64 r′ → r ≡ r′
+same64 = same-by meaning64 back is
+  where
+    back : Answer (ℕ × ℕ) → ReadU64
+    back (gives p) = R64.Number (p .0) (record { 0 = p .1 })
+    back (refused k) = R64.Refused (refusalOf k)
+    is : (r : ReadU64) → back (meaning64 r) ≡ r
+    is (R64.Number v n) = refl
+    is (R64.Refused a) = ap R64.Refused (refusal-back a)
+
+pub same32 : (r r′ : ReadU32) → meaning32 r ≡ meaning32 r′ → r ≡ r′
+same32 = same-by meaning32 back is
+  where
+    back : Answer (ℕ × ℕ) → ReadU32
+    back (gives p) = R32.Number (p .0) (record { 0 = p .1 })
+    back (refused k) = R32.Refused (refusalOf k)
+    is : (r : ReadU32) → back (meaning32 r) ≡ r
+    is (R32.Number v n) = refl
+    is (R32.Refused a) = ap R32.Refused (refusal-back a)
+
+pub same-i64 : (r r′ : ReadI64) → meaningI64 r ≡ meaningI64 r′ → r ≡ r′
+same-i64 = same-by meaningI64 back is
+  where
+    back : Answer (ℤ × ℕ) → ReadI64
+    back (gives p) = RI64.Number (p .0) (record { 0 = p .1 })
+    back (refused k) = RI64.Refused (refusalOf k)
+    is : (r : ReadI64) → back (meaningI64 r) ≡ r
+    is (RI64.Number v n) = refl
+    is (RI64.Refused a) = ap RI64.Refused (refusal-back a)

@@ -1,0 +1,6 @@
+pub mod Readers
+pub mod Writers
+pub mod Table
+pub mod Source
+pub mod Try
+pub mod Claims
