@@ -1,2 +1,7 @@
 mod Same
 mod Rows
+mod Laws
+mod Trips
+mod Spelled
+mod Sources
+pub mod All

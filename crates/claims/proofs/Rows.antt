@@ -57,7 +57,7 @@ module _ {A : Type 0} (w : Width A) (sound : Sound w) where
       let i : length g - 1 ≡ run g = omega arith in
       let j : length g - 2 ≡ run g - 1 = omega arith in
       let large : tooLarge w g ≡ false =
-          not-large w g (omega (arith, row .fits)) (λ e. rw i at (row .allowed (omega arith))) in
+      not-large w g (omega (arith, row .fits)) (λ e. rw i at (row .allowed (omega arith))) in
       let many : tooMany w g ≡ true = too-many w g (omega (arith, row .not-first)) (rw (i, j) at (row .too-many)) in
       ap (reading w) (row .ends) ∙ behind w (row .rest) (row .is-group) ∙ rw (large, many)
 
@@ -77,9 +77,10 @@ module _ {A : Type 0} (w : Width A) (sound : Sound w) where
 
   overrun-row : (l : List ℕ) → w .most ≤ run l → OverflowRow w l
   overrun-row l h = record {
-      there = omega (arith, run-within l);
-      high = run-high l (w .most - 1) (omega arith);
-      outside = sound .low (getD l (w .most - 1) 0) (in-run l (w .most - 1) (omega (arith, sound .some))) }
+    there = omega (arith, run-within l);
+    high = run-high l (w .most - 1) (omega arith);
+    outside = sound .low (getD l (w .most - 1) 0) (in-run l (w .most - 1) (omega (arith, sound .some)));
+  }
 
   large-row : (l : List ℕ) → run l < length l → tooLarge w l ≡ true → OverflowRow w l
   large-row l h t =
@@ -93,20 +94,21 @@ module _ {A : Type 0} (w : Width A) (sound : Sound w) where
       let j : length g - 2 ≡ run g - 1 = omega arith in
       let p = many-is w g many in
       record {
-          group = g;
-          rest = rest;
-          ends = e;
-          is-group = r;
-          fits =
-              by-order (w .most) (length g)
-              (λ l. clash small (too-large w g (omega arith)
-              (sound .low (getD g (w .most - 1) 0) (in-run g (w .most - 1) (omega (arith, sound .some))))))
-              (λ l. l);
-          allowed = λ m.
-              by-test (w .allowed (getD g (length g - 1) 0)) (λ t. t)
-              (λ t. let q : w .most - 1 ≡ length g - 1 = omega arith in clash small (too-large w g (omega arith) (rw q t)));
-          not-first = omega (arith, p .0);
-          too-many = rw (i, j) (p .1) }
+        group = g;
+        rest = rest;
+        ends = e;
+        is-group = r;
+        fits =
+            by-order (w .most) (length g)
+            (λ l. clash small (too-large w g (omega arith)
+            (sound .low (getD g (w .most - 1) 0) (in-run g (w .most - 1) (omega (arith, sound .some))))))
+            (λ l. l);
+        allowed = λ m.
+            by-test (w .allowed (getD g (length g - 1) 0)) (λ t. t)
+            (λ t. let q : w .most - 1 ≡ length g - 1 = omega arith in clash small (too-large w g (omega arith) (rw q t)));
+        not-first = omega (arith, p .0);
+        too-many = rw (i, j) (p .1);
+      }
 
   -- a group stands there: the tests on it
   decide-closed : (s : List ℕ) (at : ℕ) → Bytes s → at ≤ length s → run (drop at s) < length (drop at s) → Decided s at
@@ -120,7 +122,10 @@ module _ {A : Type 0} (w : Width A) (sound : Sound w) where
       (λ t.
       let small : tooLarge w g ≡ false = sym same ∙ t in
       by-test (tooMany w g) (λ u. inl (NotShortest, (here, many-row l g (drop (run l + 1) l) split r small u)))
-      (λ u. inr (w .value g, length g, record {
+      (λ u. inr (
+        w .value g,
+        length g,
+        record {
           here = here;
           group = g;
           rest = drop (run l + 1) l;
@@ -129,7 +134,9 @@ module _ {A : Type 0} (w : Width A) (sound : Sound w) where
           not-large = small;
           not-many = u;
           value = refl;
-          count = refl })))
+          count = refl;
+        },
+      )))
 
   pub decide : (s : List ℕ) (at : ℕ) → Bytes s → Decided s at
   decide s at bytes =

@@ -44,8 +44,8 @@ same-refusal a b e = sym (refusal-back a) ∙ ap refusalOf e ∙ refusal-back b
 pub apart : {A X : Type 0} {a : A} {k : ℕ} → _≡_ {A = Answer A} (gives a) (refused k) → X
 apart e = let z : _≡_ {A = ℕ} 0 1 = cc in absurd (omega arith)
 
-pub refused-same : {A : Type 0} {a b : Refusal} → _≡_ {A = Answer A} (refused (numberOf a)) (refused (numberOf b)) → a ≡ b
-refused-same {A} {a} {b} e = same-refusal a b (cc)
+pub refused-same : {A : Type 0} (a b : Refusal) → _≡_ {A = Answer A} (refused (numberOf a)) (refused (numberOf b)) → a ≡ b
+refused-same a b e = same-refusal a b (cc)
 
 -- the parts of a number that was given
 pub given-value : {A : Type 0} {a b : A} {m n : ℕ} → _≡_ {A = Answer (A × ℕ)} (gives (a, m)) (gives (b, n)) → a ≡ b
@@ -64,6 +64,7 @@ same-written = same-by meaning back is
     back : Answer ℕ → Written
     back (gives n) = W.Bytes (record { 0 = n })
     back (refused k) = W.Refused (refusalOf k)
+
     is : (r : Written) → back (meaning r) ≡ r
     is (W.Bytes n) = refl
     is (W.Refused a) = ap W.Refused (refusal-back a)
@@ -74,6 +75,7 @@ same64 = same-by meaning64 back is
     back : Answer (ℕ × ℕ) → ReadU64
     back (gives p) = R64.Number (p .0) (record { 0 = p .1 })
     back (refused k) = R64.Refused (refusalOf k)
+
     is : (r : ReadU64) → back (meaning64 r) ≡ r
     is (R64.Number v n) = refl
     is (R64.Refused a) = ap R64.Refused (refusal-back a)
@@ -84,6 +86,7 @@ same32 = same-by meaning32 back is
     back : Answer (ℕ × ℕ) → ReadU32
     back (gives p) = R32.Number (p .0) (record { 0 = p .1 })
     back (refused k) = R32.Refused (refusalOf k)
+
     is : (r : ReadU32) → back (meaning32 r) ≡ r
     is (R32.Number v n) = refl
     is (R32.Refused a) = ap R32.Refused (refusal-back a)
@@ -94,6 +97,7 @@ same-i64 = same-by meaningI64 back is
     back : Answer (ℤ × ℕ) → ReadI64
     back (gives p) = RI64.Number (p .0) (record { 0 = p .1 })
     back (refused k) = RI64.Refused (refusalOf k)
+
     is : (r : ReadI64) → back (meaningI64 r) ≡ r
     is (RI64.Number v n) = refl
     is (RI64.Refused a) = ap RI64.Refused (refusal-back a)

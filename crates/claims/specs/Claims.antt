@@ -41,18 +41,18 @@ use Rattle.claims.specs.Try.{Starred}
 -- number and n the length of its form.
 abbrev pub Accepts : Reader → Type 0
 Accepts k = (s : List ℕ) (at : ℕ) (r : Reply k) → Bytes s → Promised k s at r
-  → (v : Value k) (n : Count) → (r ≡ number k v n) ↔ Begins (form k) (OfWidth k) s at v (n .0)
+    → (v : Value k) (n : Count) → (r ≡ number k v n) ↔ Begins (form k) (OfWidth k) s at v (n .0)
 
 -- 2. It refuses by a number exactly when the row of that number holds; no two rows hold, and none where it accepts; and one holds or
 -- it accepts.
 abbrev pub Refuses : Reader → Type 0
 Refuses k = (s : List ℕ) (at : ℕ) (r : Reply k) → Bytes s → Promised k s at r
-  → (why : Refusal) → (r ≡ refuse k why) ↔ Row (width k) why s at
+    → (why : Refusal) → (r ≡ refuse k why) ↔ Row (width k) why s at
 
 abbrev pub Excludes : Reader → Type 0
 Excludes k = (s : List ℕ) (at : ℕ) →
     ((a b : Refusal) → Row (width k) a s at → Row (width k) b s at → a ≡ b)
-  × ((a : Refusal) (v : Value k) (n : ℕ) → Row (width k) a s at → Begins (form k) (OfWidth k) s at v n → ⊥)
+    × ((a : Refusal) (v : Value k) (n : ℕ) → Row (width k) a s at → Begins (form k) (OfWidth k) s at v n → ⊥)
 
 abbrev pub Exhausts : Reader → Type 0
 Exhausts k = (s : List ℕ) (at : ℕ) → Bytes s →
@@ -63,8 +63,8 @@ Exhausts k = (s : List ℕ) (at : ℕ) → Bytes s →
 abbrev pub Writes : Reader → Type 0
 Writes k = (v : Value k) (before : List ℕ) (at : ℕ) (r : Written) (after : List ℕ) → Laying k v before at r after →
     ((at + length (form k v) ≤ length before)
-      ↔ ((r ≡ W.Bytes (record { 0 = length (form k v) })) × (after ≡ take at before ++ form k v ++ drop (at + length (form k v)) before)))
-  × ((length before < at + length (form k v)) ↔ ((r ≡ W.Refused NoRoom) × (after ≡ before)))
+    ↔ ((r ≡ W.Bytes (record { 0 = length (form k v) })) × (after ≡ take at before ++ form k v ++ drop (at + length (form k v)) before)))
+    × ((length before < at + length (form k v)) ↔ ((r ≡ W.Refused NoRoom) × (after ≡ before)))
 
 -- 4. The shortest unsigned form: one byte v if v < 128, else (v mod 128) + 128 followed by the form of v div 128.
 abbrev pub Shortest : Type 0
@@ -90,7 +90,7 @@ zero-of signed64 = pos 0
 abbrev pub TwosComplement : Type 0
 TwosComplement = (g : List ℕ) →
     (digits g < 2 ^ (7 * length g - 1) → signed.i64 .value g ≡ pos (digits g))
-  × (2 ^ (7 * length g - 1) ≤ digits g → digits g < 2 ^ (7 * length g) → signed.i64 .value g +ℤ pos (2 ^ (7 * length g)) ≡ pos (digits g))
+    × (2 ^ (7 * length g - 1) ≤ digits g → digits g < 2 ^ (7 * length g) → signed.i64 .value g +ℤ pos (2 ^ (7 * length g)) ≡ pos (digits g))
 
 -- -2^(7k-1) <= v < 2^(7k-1)
 pub record Within (k : ℕ) (v : ℤ) : Type 0 where
@@ -112,27 +112,27 @@ OneTooMany = (g : List ℕ) → Group g → (tooMany signed.i64 g ≡ true) ↔ 
 -- 7. Write then read gives the number back.
 abbrev pub WriteRead : Reader → Type 0
 WriteRead k = (v : Value k) (before : List ℕ) (at : ℕ) (n : Count) (after : List ℕ) (r : Reply k) → OfWidth k v
-  → Laying k v before at (W.Bytes n) after → Promised k after at r → r ≡ number k v n
+    → Laying k v before at (W.Bytes n) after → Promised k after at r → r ≡ number k v n
 
 -- Read then write gives the bytes back.
 abbrev pub ReadWrite : Reader → Type 0
 ReadWrite k = (s : List ℕ) (at : ℕ) (v : Value k) (n : Count) (r : Written) (after : List ℕ) → Bytes s
-  → Promised k s at (number k v n) → Laying k v s at r after → (r ≡ W.Bytes n) × (after ≡ s)
+    → Promised k s at (number k v n) → Laying k v s at r after → (r ≡ W.Bytes n) × (after ≡ s)
 
 -- More bytes behind an accepted number change nothing.
 abbrev pub MoreBehind : Reader → Type 0
 MoreBehind k = (s more : List ℕ) (at : ℕ) (v : Value k) (n : Count) (r : Reply k) → Bytes s
-  → Promised k s at (number k v n) → Promised k (s ++ more) at r → r ≡ number k v n
+    → Promised k s at (number k v n) → Promised k (s ++ more) at r → r ≡ number k v n
 
 -- At least one byte is taken.
 abbrev pub SomeByte : Reader → Type 0
-SomeByte k = (s : List ℕ) (at : ℕ) (v : Value k) (n : Count) → Promised k s at (number k v n) → 0 < n .0
+SomeByte k = (s : List ℕ) (at : ℕ) (v : Value k) (n : Count) → Bytes s → Promised k s at (number k v n) → 0 < n .0
 
 -- 8. `spec_parse` gives what the reading gives, and nothing exactly where it refuses.
 abbrev pub SpecParse : Type 0
 SpecParse = (s : List ℕ) → Bytes s →
     ((v n : ℕ) → (spec-parse s ≡ some (n, v)) ↔ (read unsigned.u64 s 0 ≡ gives (v, n)))
-  × ((spec-parse s ≡ none) ↔ ((why : ℕ) × (read unsigned.u64 s 0 ≡ refused why)))
+    × ((spec-parse s ≡ none) ↔ ((why : ℕ) × (read unsigned.u64 s 0 ≡ refused why)))
 
 -- 10. No second answer meets a promise, and no second final content of a lent slice.
 abbrev pub OneReply : Reader → Type 0
@@ -140,7 +140,7 @@ OneReply k = (s : List ℕ) (at : ℕ) (r r′ : Reply k) → Promised k s at r 
 
 abbrev pub OneWritten : Reader → Type 0
 OneWritten k = (v : Value k) (s : List ℕ) (at : ℕ) (r r′ : Written) (out out′ : List ℕ)
-  → Laying k v s at r out → Laying k v s at r′ out′ → (r ≡ r′) × (out ≡ out′)
+    → Laying k v s at r out → Laying k v s at r′ out′ → (r ≡ r′) × (out ≡ out′)
 
 abbrev pub OneLength : Reader → Type 0
 OneLength k = (v : Value k) (r r′ : Count) → Length k v r → Length k v r′ → r ≡ r′
@@ -165,7 +165,7 @@ pub record Claims : Type 0 where
   -- 6. loop and recursive forms
   pub read-alike : (s : List ℕ) (at : ℕ) (r r′ : ReadU64) → ReadsU64 s at r → ReadsU64Rec s at r′ → r ≡ r′
   pub write-alike : (v : ℕ) (s : List ℕ) (at : ℕ) (r r′ : Written) (out out′ : List ℕ) → WritesU64 v s at r out → WritesU64Rec v s at r′ out′
-    → (r ≡ r′) × (out ≡ out′)
+      → (r ≡ r′) × (out ≡ out′)
   -- 7. round trips
   pub write-read : (k : Reader) → WriteRead k
   pub read-write : (k : Reader) → ReadWrite k
@@ -180,7 +180,7 @@ pub record Claims : Type 0 where
   pub one-number : (why : Refusal) (n m : ℕ) → Numbers why n → Numbers why m → n ≡ m
   pub one-walk : (s : List ℕ) (at : ℕ) (r r′ : Walked) → Walks s at r → Walks s at r′ → r ≡ r′
   pub one-store : (m : ℕ) (below : Bool) (n : ℕ) (s : List ℕ) (at : ℕ) (r r′ : Written) (out out′ : List ℕ)
-    → Stores m below n s at r out → Stores m below n s at r′ out′ → (r ≡ r′) × (out ≡ out′)
+      → Stores m below n s at r out → Stores m below n s at r′ out′ → (r ≡ r′) × (out ≡ out′)
   pub one-reply : (k : Reader) → OneReply k
   pub one-written : (k : Reader) → OneWritten k
   pub one-length : (k : Reader) → OneLength k

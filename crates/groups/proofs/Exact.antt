@@ -147,19 +147,21 @@ module _ {A : Type 0} {w : Width A} {below : Bool} {small top : ℕ} (k : Spells
       let s : Spelled below small (said below g) g = recognized r (rw (run-high b g hi) at h) (many-tail w r hi t) in
       front hi l s (enough hi s t)
 
+  -- and so it is the spelling of what it says
+  pub shortest : {g : List ℕ} → Group g → say below (getD g (run g) 0) < small → tooMany w g ≡ false → g ≡ spell below small (said below g)
+  shortest {g} r h t = unique (recognized r h t) (spelled below small (k .some) (said below g))
+
   pub accepts : {m : ℕ} → m < 128 ^ (w .most - 1) * (top + 1)
       → Group (spell below small m) × (tooLarge w (spell below small m) ≡ false) × (tooMany w (spell below small m) ≡ false)
   accepts {m} h = let s = spelled below small (k .some) m in (spelled-group (k .low) s, below-not-large s h, not-many s)
 
   pub accepted : {g : List ℕ} → Group g → say below (getD g (run g) 0) < small → tooLarge w g ≡ false → tooMany w g ≡ false
       → (g ≡ spell below small (said below g)) × (said below g < 128 ^ (w .most - 1) * (top + 1))
-  accepted {g} r h e t =
-      let s : Spelled below small (said below g) g = recognized r h t in
-      (unique s (spelled below small (k .some) (said below g)), not-large-below s e)
+  accepted {g} r h e t = (shortest r h t, not-large-below (recognized r h t) e)
 
   -- with a last byte that is one too many, one byte fewer would do
   too-many-small : {g : List ℕ} → Group g → say below (getD g (run g) 0) < small → tooMany w g ≡ true
-    → (0 < run g) × (said below g < small * 128 ^ (run g - 1))
+      → (0 < run g) × (said below g < small * 128 ^ (run g - 1))
   unfolding said
   too-many-small (one {b} p) h t = clash (first-not-many w (b ∷ []) (run-low b [] p)) t
   too-many-small (more {b} hi l (one {b = c} p)) h t =
@@ -177,11 +179,12 @@ module _ {A : Type 0} {w : Width A} {below : Bool} {small top : ℕ} (k : Spells
 
   -- one too many: exactly where the shortest spelling of the same number is shorter
   pub longer : {g : List ℕ} → Group g → say below (getD g (run g) 0) < small
-    → (tooMany w g ≡ true) ↔ (length (spell below small (said below g)) < length g)
-  longer {g} r h =
-      (λ t.
-      let q = too-many-small r h t in
-      omega (arith, group-length r, q .0, short (k .low) (run g - 1) (spelled below small (k .some) (said below g)) (q .1)),
-      λ l. by-test (tooMany w g) (λ e. e) (λ e.
-      let f : g ≡ spell below small (said below g) = unique (recognized r h e) (spelled below small (k .some) (said below g)) in
-      let n : length g ≡ length (spell below small (said below g)) = ap length f in absurd (omega arith)))
+      → (tooMany w g ≡ true) ↔ (length (spell below small (said below g)) < length g)
+  longer {g} r h = (
+    λ t.
+        let q = too-many-small r h t in
+        omega (arith, group-length r, q .0, short (k .low) (run g - 1) (spelled below small (k .some) (said below g)) (q .1)),
+    λ l. by-test (tooMany w g) (λ e. e) (λ e.
+        let n : length g ≡ length (spell below small (said below g)) = ap length (shortest r h e) in
+        absurd (omega arith)),
+  )

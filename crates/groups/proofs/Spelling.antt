@@ -45,7 +45,7 @@ say-high below d h =
 
 -- a group says its last byte's number times the weight of that byte, and less than one more
 pub group-bounds : (below : Bool) {g : List ℕ} → Group g
-  → (128 ^ run g * say below (getD g (run g) 0) ≤ said below g) × (said below g < 128 ^ run g * (say below (getD g (run g) 0) + 1))
+    → (128 ^ run g * say below (getD g (run g) 0) ≤ said below g) × (said below g < 128 ^ run g * (say below (getD g (run g) 0) + 1))
 unfolding said
 group-bounds below (one {b} p) = rw (run-low b [] p, mod-eq-of-lt p) (omega arith)
 group-bounds below (more {b} {g} h l r) =
@@ -133,7 +133,7 @@ module _ {below : Bool} {small : ℕ} (small-low : small ≤ 128) where
 
   -- the last byte says what is left behind the others
   pub last-bounds : {m : ℕ} {g : List ℕ} → Spelled below small m g
-    → (128 ^ run g * say below (getD g (run g) 0) ≤ m) × (m < 128 ^ run g * (say below (getD g (run g) 0) + 1))
+      → (128 ^ run g * say below (getD g (run g) 0) ≤ m) × (m < 128 ^ run g * (say below (getD g (run g) 0) + 1))
   last-bounds p = rw (spelled-said p) at (group-bounds below (spelled-group p))
 
   pub last-small : {m : ℕ} {g : List ℕ} → Spelled below small m g → say below (getD g (run g) 0) < small

@@ -32,8 +32,12 @@ module _ {g : List ℕ} (r : Group g) where
   unfolding twos
   value-above h =
       let m : 128 ^ run g * (getD g (run g) 0 + 1) ≤ 128 ^ run g * 64 = mul-le-mul-left (128 ^ run g) (omega arith) in
-      rw (← (said-digits g), size, half-seven (run g),
-      lt-ltb (said false g) (64 * 128 ^ run g) (omega (arith, group-bounds false r, mul-comm (128 ^ run g) 64)))
+      rw (
+        ← (said-digits g),
+        size,
+        half-seven (run g),
+        lt-ltb (said false g) (64 * 128 ^ run g) (omega (arith, group-bounds false r, mul-comm (128 ^ run g) 64)),
+      )
 
   pub value-below : 64 ≤ getD g (run g) 0 → i64 .value g ≡ negsuc (said true g)
   unfolding twos
@@ -41,9 +45,13 @@ module _ {g : List ℕ} (r : Group g) where
       let m : 128 ^ run g * 64 ≤ 128 ^ run g * getD g (run g) 0 = mul-le-mul-left (128 ^ run g) h in
       let p : 2 ^ (7 * length g) ≡ 128 ^ length g = pow-seven (length g) in
       let half : 2 ^ (7 * length g - 1) ≡ 64 * 128 ^ run g = rw size (half-seven (run g)) in
-      rw (← (said-digits g), half, p,
-      le-ltb (said false g) (64 * 128 ^ run g) (omega (arith, group-bounds false r, mul-comm (128 ^ run g) 64)),
-      lt-ltb (said false g) (128 ^ length g) (omega (arith, complements g)))
+      rw (
+        ← (said-digits g),
+        half,
+        p,
+        le-ltb (said false g) (64 * 128 ^ run g) (omega (arith, group-bounds false r, mul-comm (128 ^ run g) 64)),
+        lt-ltb (said false g) (128 ^ length g) (omega (arith, complements g)),
+      )
       (ap negsuc (omega (arith, complements g)))
 
   last-low : getD g (run g) 0 < 128
@@ -80,12 +88,13 @@ module _ (s : List ℕ) (at : ℕ) {v : ℤ} {n : ℕ} where
   begins-read b =
       let a = accepts (spells (below v)) (b .of-width) in
       standing i64 s at (record {
-          here = b .here;
-          group = form v;
-          rest = b .rest;
-          begins = b .begins;
-          is-group = a .0;
-          not-large = a .1;
-          not-many = a .2;
-          value = sym (form-value v);
-          count = b .count })
+        here = b .here;
+        group = form v;
+        rest = b .rest;
+        begins = b .begins;
+        is-group = a .0;
+        not-large = a .1;
+        not-many = a .2;
+        value = sym (form-value v);
+        count = b .count;
+      })

@@ -1,0 +1,90 @@
+-- The one value of `Claims`: everything that is claimed, proved.
+use Prim.Native.Nat.{ℕ, _^_, _-_, _<_}
+use mathlib.Core.Path.{_≡_, refl, ap, sym, _∙_}
+use mathlib.Core.List.{[], _∷_}
+use native.Mathlib.Nat.{lt-trans}
+use native.Mathlib.Omega.{arith}
+use lib.IntN.{pos}
+use lib.ListN.{length}
+use Rattle.words.specs.declared.Count.{Count}
+use Rattle.groups.specs.Group.{run, digits}
+use Rattle.groups.specs.Form.{groups, spell, spellings}
+use Rattle.groups.specs.Width.{runsOut, tooLarge, tooMany, reading, read}
+use Rattle.groups.proofs.Spelling.{some-bytes}
+use Rattle.uleb128.specs.Unsigned as unsigned
+use Rattle.uleb128.proofs.Forms.{form-short, form-some}
+use Rattle.sleb128.specs.Signed as signed
+use Rattle.sleb128.proofs.Forms.{form-spelled}
+use Rattle.claims.specs.Readers.{Reader, loop64, recursive64, unsigned32, signed64, Value, form}
+use Rattle.claims.specs.Writers.{Length}
+use Rattle.claims.specs.Try.{Starred}
+use Rattle.claims.specs.Claims.{Claims, Most, zero-of, OneLength}
+use Rattle.claims.proofs.Laws.{laws, accepts, refuses, excludes, exhausts, one-reply, within, within-mag}
+use Rattle.claims.proofs.Trips.{writes, write-read, read-write, more-behind, some-byte, one, one-written}
+use Rattle.claims.proofs.Spelled.{two-sentences, twos-complement, signed-form, one-too-many, signed-most}
+use Rattle.claims.proofs.Sources.{parse-same, serialize-same}
+
+length-is : (k : Reader) (v : Value k) (n : Count) → Length k v n → n .0 ≡ length (form k v)
+length-is loop64 v n p = p .is
+length-is recursive64 v n p = p .is
+length-is unsigned32 v n p = p .is
+length-is signed64 v n p = p .is
+
+one-length : (k : Reader) → OneLength k
+one-length k v r r′ p q = ap (λ (n : ℕ). record { 0 = n }) (length-is k v r p ∙ sym (length-is k v r′ q))
+
+zero-takes-one : (k : Reader) → form k (zero-of k) ≡ 0 ∷ []
+unfolding unsigned.form signed.form spell spellings
+zero-takes-one loop64 = refl
+zero-takes-one recursive64 = refl
+zero-takes-one unsigned32 = refl
+zero-takes-one signed64 = refl
+
+most : (k : Reader) → Most k
+unfolding unsigned.form signed.form spell spellings
+most loop64 = (λ v h. form-short v 9 (lt-trans h (omega arith)), (2 ^ 64 - 1, omega arith, refl))
+most recursive64 = (λ v h. form-short v 9 (lt-trans h (omega arith)), (2 ^ 64 - 1, omega arith, refl))
+most unsigned32 = (λ v h. form-short v 4 (lt-trans h (omega arith)), (2 ^ 32 - 1, omega arith, refl))
+most signed64 = (λ v h. signed-most v (within-mag v (2 ^ 63) (omega arith) (h .0) (h .1)), (pos (2 ^ 63 - 1), within (pos (2 ^ 63 - 1)) (2 ^ 63) (omega arith), refl))
+
+some-bytes-of : (k : Reader) (v : Value k) → 0 < length (form k v)
+some-bytes-of loop64 v = form-some v
+some-bytes-of recursive64 v = form-some v
+some-bytes-of unsigned32 v = form-some v
+some-bytes-of signed64 v = some-bytes (form-spelled v)
+
+starred : Starred
+unfolding read reading runsOut tooLarge tooMany run digits signed.twos
+starred =
+    ((refl, (refl, (refl, (refl, (refl, (refl, (refl, (refl, tt)))))))), (refl, tt), (refl, (refl, (refl, (refl, tt)))))
+
+pub all : Claims
+all = record {
+  accepts = λ k. accepts k (laws k);
+  refuses = λ k. refuses k (laws k);
+  excludes = λ k. excludes k (laws k);
+  exhausts = λ k. exhausts k (laws k);
+  writes = writes;
+  shortest = two-sentences;
+  lengths = length-is;
+  zero-takes-one = zero-takes-one;
+  most = most;
+  twos-complement = twos-complement;
+  signed-form = signed-form;
+  one-too-many = λ g r. one-too-many r;
+  read-alike = λ s at r r′ p q. one-reply loop64 (laws loop64) s at r r′ p q;
+  write-alike = λ v s at r r′ out out′ p q. one-written loop64 v s at r r′ out out′ p q;
+  write-read = λ k. write-read k (laws k);
+  read-write = λ k. read-write k (laws k);
+  more-behind = λ k. more-behind k (laws k);
+  some-byte = λ k. some-byte k (laws k) (some-bytes-of k);
+  source-parse = parse-same;
+  source-serialize = serialize-same;
+  starred = starred;
+  one-number = λ why n m p q. p .is ∙ sym (q .is);
+  one-walk = λ s at r r′ p q. p .is ∙ sym (q .is);
+  one-store = λ m below n s at r r′ out out′ p q. one (groups below n m) s at r r′ out out′ p q;
+  one-reply = λ k. one-reply k (laws k);
+  one-written = one-written;
+  one-length = one-length;
+}

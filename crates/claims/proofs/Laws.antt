@@ -1,0 +1,153 @@
+-- What the claims need of each reader, and the claims on readers and writers from it, once for all four.
+use Prim.Native.Nat.{ℕ, zero, suc, _+_, _-_, _*_, _^_, _≤_, _<_}
+use mathlib.Core.Path.{_≡_, refl, ap, sym, _∙_, subst}
+use mathlib.Core.List.{List, [], _∷_, _++_}
+use mathlib.Core.Logic.{_↔_, _⊎_, inl, inr, ⊎-elim}
+use native.Mathlib.Omega.{arith}
+use lib.Dec.{leb→le, le→leb, lt→ltb, ltb→lt}
+use lib.IntN.{ℤ, pos, negsuc, negℤ}
+use lib.Signed.{mag, _≤ℤ_, _<ℤ_}
+use Rattle.words.specs.Answer.{Answer, gives, refused}
+use Rattle.words.specs.Refusal.{numberOf}
+use Rattle.words.specs.declared.Count.{Count}
+use Rattle.words.specs.declared.Refusal.{Refusal}
+use Rattle.groups.specs.Begins.{Begins}
+use Rattle.groups.specs.Group.{Bytes}
+use Rattle.groups.specs.Width.{read}
+use Rattle.groups.proofs.Walks.{Sound}
+use Rattle.groups.proofs.Standing.{Stands, standing}
+use Rattle.uleb128.specs.Promise.{meaning64, meaning32}
+use Rattle.uleb128.proofs.Widths as unsigned-widths
+use Rattle.uleb128.proofs.Exactly as unsigned-exactly
+use Rattle.sleb128.specs.Promise.{meaning as meaningI64}
+use Rattle.sleb128.specs.Signed.{form as signed-form}
+use Rattle.sleb128.proofs.Widths as signed-widths
+use Rattle.sleb128.proofs.Exactly as signed-exactly
+use Rattle.claims.specs.Readers.{Reader, loop64, recursive64, unsigned32, signed64, Value, Reply, number, refuse, Promised, width, form, OfWidth}
+use Rattle.claims.specs.Table.{Row}
+use Rattle.claims.specs.Claims.{Accepts, Refuses, Excludes, Exhausts, OneReply}
+use Rattle.claims.proofs.Same.{same64, same32, same-i64, apart, refused-same}
+use Rattle.claims.proofs.Rows.{row-refused, decide, Decided}
+
+pub record Laws (k : Reader) : Type 0 where
+  pub means : Reply k → Answer (Value k × ℕ)
+  pub number-means : (v : Value k) (n : Count) → means (number k v n) ≡ gives (v, n .0)
+  pub refuse-means : (why : Refusal) → means (refuse k why) ≡ refused (numberOf why)
+  pub same : (r r′ : Reply k) → means r ≡ means r′ → r ≡ r′
+  pub says : (s : List ℕ) (at : ℕ) (r : Reply k) → Promised k s at r → means r ≡ read (width k) s at
+  pub sound : Sound (width k)
+  pub begins : (s : List ℕ) (at : ℕ) (v : Value k) (n : ℕ) → Bytes s → read (width k) s at ≡ gives (v, n) → Begins (form k) (OfWidth k) s at v n
+  pub begun : (s : List ℕ) (at : ℕ) (v : Value k) (n : ℕ) → Begins (form k) (OfWidth k) s at v n → read (width k) s at ≡ gives (v, n)
+
+-- the numbers of the signed width, by their magnitude
+pub within : (v : ℤ) (h : ℕ) → mag v < h → (negℤ (pos h) ≤ℤ v) × (v <ℤ pos h)
+within v zero l = absurd (omega arith)
+within (pos n) (suc h) l = (record { le = tt }, record { lt = lt→ltb n (suc h) l })
+within (negsuc n) (suc h) l = (record { le = le→leb n h (omega arith) }, record { lt = tt })
+
+pub within-mag : (v : ℤ) (h : ℕ) → 0 < h → negℤ (pos h) ≤ℤ v → v <ℤ pos h → mag v < h
+within-mag v zero p a b = absurd (omega arith)
+within-mag (pos n) (suc h) p a b = ltb→lt n (suc h) (b .lt)
+within-mag (negsuc n) (suc h) p a b = let q : n ≤ h = leb→le n h (a .le) in omega arith
+
+-- beginning with a form, under another way to say which numbers are of the width
+rewidth : {A : Type 0} {f : A → List ℕ} {P Q : A → Type 0} {s : List ℕ} {at n : ℕ} {v : A} → (P v → Q v) → Begins f P s at v n → Begins f Q s at v n
+rewidth g b = record { here = b .here; of-width = g (b .of-width); rest = b .rest; begins = b .begins; count = b .count }
+
+loop-laws : Laws loop64
+loop-laws = record {
+  means = meaning64;
+  number-means = λ v n. refl;
+  refuse-means = λ why. refl;
+  same = same64;
+  says = λ s at r p. p .is;
+  sound = unsigned-widths.sound 10 1 (omega arith) (omega arith);
+  begins = λ s at v n. unsigned-exactly.read-begins 10 1 (omega arith) (omega arith) s at;
+  begun = λ s at v n. unsigned-exactly.begins-read 10 1 (omega arith) (omega arith) s at;
+}
+
+pub laws : (k : Reader) → Laws k
+unfolding loop-laws
+laws loop64 = loop-laws
+laws recursive64 = record {
+  means = loop-laws .means;
+  number-means = loop-laws .number-means;
+  refuse-means = loop-laws .refuse-means;
+  same = loop-laws .same;
+  says = loop-laws .says;
+  sound = loop-laws .sound;
+  begins = loop-laws .begins;
+  begun = loop-laws .begun;
+}
+laws unsigned32 = record {
+  means = meaning32;
+  number-means = λ v n. refl;
+  refuse-means = λ why. refl;
+  same = same32;
+  says = λ s at r p. p .is;
+  sound = unsigned-widths.sound 5 15 (omega arith) (omega arith);
+  begins = λ s at v n. unsigned-exactly.read-begins 5 15 (omega arith) (omega arith) s at;
+  begun = λ s at v n. unsigned-exactly.begins-read 5 15 (omega arith) (omega arith) s at;
+}
+laws signed64 = record {
+  means = meaningI64;
+  number-means = λ v n. refl;
+  refuse-means = λ why. refl;
+  same = same-i64;
+  says = λ s at r p. p .is;
+  sound = signed-widths.sound;
+  begins = λ s at v n bytes e. rewidth (λ l. within v (2 ^ 63) l) (signed-exactly.read-begins s at bytes e);
+  begun = λ s at v n b. signed-exactly.begins-read s at (rewidth (λ l. within-mag v (2 ^ 63) (omega arith) (l .0) (l .1)) b);
+}
+
+-- an answer and what it means
+module _ (k : Reader) (l : Laws k) (s : List ℕ) (at : ℕ) where
+  pub number-read : (v : Value k) (n : Count) → Promised k s at (number k v n) → read (width k) s at ≡ gives (v, n .0)
+  number-read v n p = sym (l .says s at (number k v n) p) ∙ l .number-means v n
+
+  pub read-number : (r : Reply k) (v : Value k) (n : Count) → Promised k s at r → read (width k) s at ≡ gives (v, n .0) → r ≡ number k v n
+  read-number r v n p e = l .same r (number k v n) (l .says s at r p ∙ e ∙ sym (l .number-means v n))
+
+  pub refusal-read : (why : Refusal) → Promised k s at (refuse k why) → read (width k) s at ≡ refused (numberOf why)
+  refusal-read why p = sym (l .says s at (refuse k why) p) ∙ l .refuse-means why
+
+  pub read-refusal : (r : Reply k) (why : Refusal) → Promised k s at r → read (width k) s at ≡ refused (numberOf why) → r ≡ refuse k why
+  read-refusal r why p e = l .same r (refuse k why) (l .says s at r p ∙ e ∙ sym (l .refuse-means why))
+
+-- 1
+pub accepts : (k : Reader) → Laws k → Accepts k
+accepts k l s at r bytes p v n = (
+  λ e. l .begins s at v (n .0) bytes (number-read k l s at v n (subst (Promised k s at) e p)),
+  λ b. read-number k l s at r v n p (l .begun s at v (n .0) b),
+)
+
+-- 2
+read-row : (k : Reader) → Laws k → (s : List ℕ) (at : ℕ) → Bytes s → (why : Refusal) → read (width k) s at ≡ refused (numberOf why) → Row (width k) why s at
+read-row k l s at bytes why e =
+    ⊎-elim (λ (row : (a : Refusal) × Row (width k) a s at).
+    subst (λ (a : Refusal). Row (width k) a s at) (refused-same (row .0) why (sym (row-refused (width k) (l .sound) (row .0) s at (row .1)) ∙ e)) (row .1))
+    (λ (g : (v : Value k) × (n : ℕ) × Stands (width k) s at v n). apart (sym (standing (width k) s at (g .2)) ∙ e))
+    (decide (width k) (l .sound) s at bytes)
+
+pub refuses : (k : Reader) → Laws k → Refuses k
+refuses k l s at r bytes p why = (
+  λ e. read-row k l s at bytes why (refusal-read k l s at why (subst (Promised k s at) e p)),
+  λ row. read-refusal k l s at r why p (row-refused (width k) (l .sound) why s at row),
+)
+
+pub excludes : (k : Reader) → Laws k → Excludes k
+excludes k l s at = (
+  λ a b p q. refused-same a b (sym (row-refused (width k) (l .sound) a s at p) ∙ row-refused (width k) (l .sound) b s at q),
+  λ a v n p b. apart (sym (l .begun s at v n b) ∙ row-refused (width k) (l .sound) a s at p),
+)
+
+pub exhausts : (k : Reader) → Laws k → Exhausts k
+exhausts k l s at bytes =
+    ⊎-elim (λ row. inl row)
+    (λ (g : (v : Value k) × (n : ℕ) × Stands (width k) s at v n).
+    inr (g .0, g .1, l .begins s at (g .0) (g .1) bytes (standing (width k) s at (g .2))))
+    (decide (width k) (l .sound) s at bytes)
+
+-- 10
+pub one-reply : (k : Reader) → Laws k → OneReply k
+one-reply k l s at r r′ p q = l .same r r′ (l .says s at r p ∙ sym (l .says s at r′ q))
