@@ -7,21 +7,23 @@ use mathlib.Core.Logic.{_↔_}
 use native.Mathlib.Nat.{add-comm, mul-comm}
 use native.Mathlib.Omega.{arith}
 use borrow.Author.Tests.{lt-ltb, le-ltb}
+use lib.Dec.{ltb}
 use lib.IntN.{ℤ, pos, negsuc, negℤ, subℕ, _+ℤ_}
 use lib.ListN.{length, getD}
 use lib.Pow.{pow-pos}
 use lib.Signed.{mag, _≤ℤ_, _<ℤ_}
+use Rattle.words.specs.Answer.{pick}
 use Rattle.words.proofs.Cases.{by-order, by-test}
 use Rattle.groups.specs.Group.{Group, digits, run}
 use Rattle.groups.specs.Width.{tooMany}
-use Rattle.groups.proofs.Run.{at-run}
+use Rattle.groups.proofs.Run.{at-run, digits-below}
 use Rattle.groups.proofs.Spelling.{some-bytes, short, small-enough, spelled-group}
 use Rattle.groups.proofs.Exact.{group-length, longer, shortest}
 use Rattle.uleb128.specs.Unsigned as unsigned
 use Rattle.uleb128.proofs.Forms.{form-small, form-large, form-short, form-some}
 use Rattle.sleb128.specs.Signed.{twos, form, i64}
 use Rattle.sleb128.proofs.Forms.{form-spelled}
-use Rattle.sleb128.proofs.Widths.{spells, half-seven}
+use Rattle.sleb128.proofs.Widths.{spells, pow-seven, half-seven}
 use Rattle.sleb128.proofs.Exactly.{value-above, value-below, form-value}
 use Rattle.claims.specs.Claims.{Shortest, TwosComplement, Within, SignedForm, OneTooMany}
 use Rattle.claims.proofs.Laws.{within, within-mag}
@@ -32,13 +34,12 @@ two-sentences v = (form-small v, λ h. form-large v h ∙ ap (λ (b : ℕ). b �
 pub twos-complement : TwosComplement
 unfolding twos
 twos-complement g =
-    let k = length g in (
-      λ h. rw (lt-ltb (digits g) (2 ^ (7 * k - 1)) h),
-      λ h l.
-          let e : suc (2 ^ (7 * k) - suc (digits g)) ≤ 2 ^ (7 * k) = omega arith in
-          rw (le-ltb (digits g) (2 ^ (7 * k - 1)) h, lt-ltb (digits g) (2 ^ (7 * k)) l, le-ltb (2 ^ (7 * k)) (suc (2 ^ (7 * k) - suc (digits g))) e)
-          (ap pos (omega arith)),
-    )
+    (λ h. rw (lt-ltb (digits g) (2 ^ (7 * length g - 1)) h), λ h. below-zero (2 ^ (7 * length g)) h (rw (pow-seven (length g)) (digits-below g)))
+  where
+    below-zero : (m : ℕ) {half : ℕ} → half ≤ digits g → digits g < m → pick (ltb (digits g) half) (pos (digits g)) (subℕ (digits g) m) +ℤ pos m ≡ pos (digits g)
+    below-zero m {half} h l =
+        let e : suc (m - suc (digits g)) ≤ m = omega arith in
+        rw (le-ltb (digits g) half h, lt-ltb (digits g) m l, le-ltb m (suc (m - suc (digits g))) e) (ap pos (omega arith))
 
 -- within 7k bits: by the magnitude
 half : (k : ℕ) → 0 < k → 2 ^ (7 * k - 1) ≡ 64 * 128 ^ (k - 1)

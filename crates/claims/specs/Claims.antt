@@ -90,7 +90,7 @@ zero-of signed64 = pos 0
 abbrev pub TwosComplement : Type 0
 TwosComplement = (g : List ℕ) →
     (digits g < 2 ^ (7 * length g - 1) → signed.i64 .value g ≡ pos (digits g))
-    × (2 ^ (7 * length g - 1) ≤ digits g → digits g < 2 ^ (7 * length g) → signed.i64 .value g +ℤ pos (2 ^ (7 * length g)) ≡ pos (digits g))
+    × (2 ^ (7 * length g - 1) ≤ digits g → signed.i64 .value g +ℤ pos (2 ^ (7 * length g)) ≡ pos (digits g))
 
 -- -2^(7k-1) <= v < 2^(7k-1)
 pub record Within (k : ℕ) (v : ℤ) : Type 0 where

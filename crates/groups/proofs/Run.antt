@@ -66,7 +66,7 @@ digits-more (c ∷ g) b =
     rw (digits-more g b)
     (omega (arith, ap (λ (n : ℕ). n * (b % 128)) (pow-succ' 128 (length g)), mul-assoc 128 (128 ^ length g) (b % 128)))
 
-digits-below : (g : List ℕ) → digits g < 128 ^ length g
+pub digits-below : (g : List ℕ) → digits g < 128 ^ length g
 unfolding digits
 digits-below [] = omega arith
 digits-below (b ∷ g) = let ih : digits g < 128 ^ length g = digits-below g in omega (arith, pow-succ' 128 (length g))
