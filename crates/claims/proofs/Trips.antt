@@ -43,11 +43,21 @@ module _ (bytes s : List ℕ) (at : ℕ) (r : Written) (out : List ℕ) (w : Lay
       (λ h. apart (ap meaning (sym e ∙ no-room h .0)))
       (λ h. let q : gives (n .0) ≡ gives (length bytes) = ap meaning (sym e ∙ fits h .0) in (h, cc))
 
-  exactly : ((at + length bytes ≤ length s) ↔ ((r ≡ W.Bytes (record { 0 = length bytes })) × (out ≡ take at s ++ bytes ++ drop (at + length bytes) s)))
+  kept : length out ≡ length s
+  kept =
+      by-order (length s) (at + length bytes) (λ h. ap length (no-room h .1))
+      (λ h.
+      ap length (fits h .1)
+      ∙ simp (length-append, length-drop, length-take-le at s (omega arith)) (omega arith))
+
+  exactly :
+      ((at + length bytes ≤ length s) ↔ ((r ≡ W.Bytes (record { 0 = length bytes })) × (out ≡ take at s ++ bytes ++ drop (at + length bytes) s)))
       × ((length s < at + length bytes) ↔ ((r ≡ W.Refused NoRoom) × (out ≡ s)))
+      × (length out ≡ length s)
   exactly = (
     (fits, λ p. bytes-fit _ (p .0) .0),
     (no-room, λ p. by-order (length s) (at + length bytes) (λ h. h) (λ h. apart (ap meaning (sym (fits h .0) ∙ p .0)))),
+    kept,
   )
 
 pub one : (bytes s : List ℕ) (at : ℕ) (r r′ : Written) (out out′ : List ℕ) → Lays bytes s at r out → Lays bytes s at r′ out′ → (r ≡ r′) × (out ≡ out′)
@@ -119,4 +129,5 @@ more-behind k l s more at v n r bytes p q =
     read-number k l (s ++ more) at r v n q (l .begun (s ++ more) at v (n .0) (behind k l s at v n bytes p more))
 
 pub some-byte : (k : Reader) → Laws k → ((v : Value k) → 0 < length (form k v)) → SomeByte k
-some-byte k l f s at v n bytes p = omega (arith, f v, stands k l s at v n bytes p .count)
+some-byte k l f s at v n bytes p =
+    let c = stands k l s at v n bytes p .count in (omega (arith, f v), omega (arith, taken k l s at v n bytes p))

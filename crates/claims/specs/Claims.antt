@@ -65,6 +65,7 @@ Writes k = (v : Value k) (before : List ℕ) (at : ℕ) (r : Written) (after : L
     ((at + length (form k v) ≤ length before)
     ↔ ((r ≡ W.Bytes (record { 0 = length (form k v) })) × (after ≡ take at before ++ form k v ++ drop (at + length (form k v)) before)))
     × ((length before < at + length (form k v)) ↔ ((r ≡ W.Refused NoRoom) × (after ≡ before)))
+    × (length after ≡ length before)
 
 -- 4. The shortest unsigned form: one byte v if v < 128, else (v mod 128) + 128 followed by the form of v div 128.
 abbrev pub Shortest : Type 0
@@ -124,9 +125,10 @@ abbrev pub MoreBehind : Reader → Type 0
 MoreBehind k = (s more : List ℕ) (at : ℕ) (v : Value k) (n : Count) (r : Reply k) → Bytes s
     → Promised k s at (number k v n) → Promised k (s ++ more) at r → r ≡ number k v n
 
--- At least one byte is taken.
+-- At least one byte is taken, and no more than are there.
 abbrev pub SomeByte : Reader → Type 0
-SomeByte k = (s : List ℕ) (at : ℕ) (v : Value k) (n : Count) → Bytes s → Promised k s at (number k v n) → 0 < n .0
+SomeByte k = (s : List ℕ) (at : ℕ) (v : Value k) (n : Count) → Bytes s → Promised k s at (number k v n)
+    → (0 < n .0) × (at + n .0 ≤ length s)
 
 -- 8. `spec_parse` gives what the reading gives, and nothing exactly where it refuses.
 abbrev pub SpecParse : Type 0

@@ -23,65 +23,69 @@ given t = and 1 write-rest-kinds.ps (is 1 write-rest-kinds.ps μ t) write-rest.P
 abbrev env : ℕ → lts.Claims
 env t = (and 1 write-rest-kinds.ps (falls 1 write-rest-kinds.ps _<_ μ t) write-rest.Pre, write-rest.Post)
 
-cast-byte : (t : ℕ) → lts.Need-cast-byte (env t) (given t) write-rest.Post
-cast-byte t c = search needs
+module _ (t : ℕ) where
+  cast-byte : lts.Need-cast-byte (env t) (given t) write-rest.Post
+  cast-byte c = search needs
 
-slice-write-buffer : (t : ℕ) → lts.Need-slice-write-buffer (env t) (given t) write-rest.Post
-slice-write-buffer t c = fits-one _ _ _ _ (c .before .before .pre .1)
+  slice-write-buffer : lts.Need-slice-write-buffer (env t) (given t) write-rest.Post
+  slice-write-buffer c = fits-one _ _ _ _ (c .before .before .pre .1)
 
-same-length : (t : ℕ) → lts.Need-same-length (env t) (given t) write-rest.Post
-same-length t c = search needs
+  same-length : lts.Need-same-length (env t) (given t) write-rest.Post
+  same-length c = search needs
 
-returns : (t : ℕ) → lts.Need-returns (env t) (given t) write-rest.Post
-returns t c = last-stored _ _ _ (c .if1 .taken)
+  returns : lts.Need-returns (env t) (given t) write-rest.Post
+  returns c = last-stored _ _ _ (c .if1 .taken)
 
-add-next : (t : ℕ) → lts.Need-add-next (env t) (given t) write-rest.Post
-add-next t c = omega (arith, fits-one _ _ _ _ (c .before .before .pre .1))
+  add-next : lts.Need-add-next (env t) (given t) write-rest.Post
+  add-next c = omega (arith, fits-one _ _ _ _ (c .before .before .pre .1))
 
-sub-fewer : (t : ℕ) → lts.Need-sub-fewer (env t) (given t) write-rest.Post
-sub-fewer t c = fits-some _ _ _ _ (c .before .before .pre .1)
+  sub-fewer : lts.Need-sub-fewer (env t) (given t) write-rest.Post
+  sub-fewer c = fits-some _ _ _ _ (c .before .before .pre .1)
 
-write-rest-requires : (t : ℕ) → lts.Need-write-rest-requires (env t) (given t) write-rest.Post
-write-rest-requires t c κs =
-    let k = c .before .before .before .pre .1 in
-    (omega (arith, c .before .before .before .pre .0, fits-some _ _ _ _ k), fits-rest _ _ _ _ k (c .before .if1 .left))
+  write-rest-requires : lts.Need-write-rest-requires (env t) (given t) write-rest.Post
+  write-rest-requires c κs =
+      let k = c .before .before .before .pre .1 in
+      (omega (arith, c .before .before .before .pre .0, fits-some _ _ _ _ k), fits-rest _ _ _ _ k (c .before .if1 .left))
 
-cast-low : (t : ℕ) → lts.Need-cast-low (env t) (given t) write-rest.Post
-cast-low t c = search needs
+  cast-low : lts.Need-cast-low (env t) (given t) write-rest.Post
+  cast-low c = search needs
 
-add-byte : (t : ℕ) → lts.Need-add-byte (env t) (given t) write-rest.Post
-add-byte t c = search needs
+  add-byte : lts.Need-add-byte (env t) (given t) write-rest.Post
+  add-byte c = search needs
 
-slice-write-buffer-2 : (t : ℕ) → lts.Need-slice-write-buffer-2 (env t) (given t) write-rest.Post
-slice-write-buffer-2 t c = omega (arith, fits-one _ _ _ _ (c .before .before .before .before .before .before .pre .1), c .before .before .write-rest .kept .1 .0)
+  slice-write-buffer-2 : lts.Need-slice-write-buffer-2 (env t) (given t) write-rest.Post
+  slice-write-buffer-2 c = omega (arith, fits-one _ _ _ _ (c .before .before .before .before .before .before .pre .1), c .before .before .write-rest .kept .1 .0)
 
-add-result : (t : ℕ) → lts.Need-add-result (env t) (given t) write-rest.Post
-add-result t c =
-    omega (
-      arith,
-      c .before .before .before .before .before .before .fits .left,
-      fits-count _ _ _ _ (c .before .before .before .before .before .before .pre .1) (c .before .before .before .before .if1 .left) (c .before .before .write-rest .ensures),
-    )
+  add-result : lts.Need-add-result (env t) (given t) write-rest.Post
+  add-result c =
+      omega (
+        arith,
+        c .before .before .before .before .before .before .fits .left,
+        fits-count _ _ _ _ (c .before .before .before .before .before .before .pre .1) (c .before .before .before .before .if1 .left) (c .before .before .write-rest .ensures),
+      )
 
-same-length-2 : (t : ℕ) → lts.Need-same-length-2 (env t) (given t) write-rest.Post
-same-length-2 t c = simp length-set (c .before .before .write-rest .kept .1 .0)
+  same-length-2 : lts.Need-same-length-2 (env t) (given t) write-rest.Post
+  same-length-2 c = simp length-set (c .before .before .write-rest .kept .1 .0)
 
-returns-2 : (t : ℕ) → lts.Need-returns-2 (env t) (given t) write-rest.Post
-returns-2 t c = front-stored _ _ _ (c .before .before .before .before .if1 .left) (c .before .before .write-rest .ensures)
+  returns-2 : lts.Need-returns-2 (env t) (given t) write-rest.Post
+  returns-2 c = front-stored _ _ _ (c .before .before .before .before .if1 .left) (c .before .before .write-rest .ensures)
+
+  closed : {M : Type 1} → lts.Closed (env t) (given t) write-rest.Post M
+  closed =
+      lts.spec (env t) (given t) write-rest.Post
+      cast-byte
+      slice-write-buffer
+      same-length
+      returns
+      add-next
+      sub-fewer
+      write-rest-requires
+      cast-low
+      add-byte
+      slice-write-buffer-2
+      add-result
+      same-length-2
+      returns-2
 
 pub +write-rest-spec : {M : Type 1} → statement M
-+write-rest-spec =
-    close μ λ t. lts.spec (env t) (given t) write-rest.Post
-    (cast-byte t)
-    (slice-write-buffer t)
-    (same-length t)
-    (returns t)
-    (add-next t)
-    (sub-fewer t)
-    (write-rest-requires t)
-    (cast-low t)
-    (add-byte t)
-    (slice-write-buffer-2 t)
-    (add-result t)
-    (same-length-2 t)
-    (returns-2 t)
++write-rest-spec = close μ (λ t. closed t)
