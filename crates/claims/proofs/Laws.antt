@@ -1,8 +1,8 @@
 -- What the claims need of each reader, and the claims on readers and writers from it, once for all four.
-use Prim.Native.Nat.{ℕ, zero, suc, _+_, _-_, _*_, _^_, _≤_, _<_}
-use mathlib.Core.Path.{_≡_, refl, ap, sym, _∙_, subst}
-use mathlib.Core.List.{List, [], _∷_, _++_}
-use mathlib.Core.Logic.{_↔_, _⊎_, inl, inr, ⊎-elim}
+use Prim.Native.Nat.{ℕ, zero, suc, _^_, _≤_, _<_}
+use mathlib.Core.Path.{_≡_, refl, sym, _∙_, subst}
+use mathlib.Core.List.{List}
+use mathlib.Core.Logic.{inl, inr, ⊎-elim}
 use native.Mathlib.Omega.{arith}
 use lib.Dec.{leb→le, le→leb, lt→ltb, ltb→lt}
 use lib.IntN.{ℤ, pos, negsuc, negℤ}
@@ -20,14 +20,13 @@ use Rattle.uleb128.specs.Promise.{meaning64, meaning32}
 use Rattle.uleb128.proofs.Widths as unsigned-widths
 use Rattle.uleb128.proofs.Exactly as unsigned-exactly
 use Rattle.sleb128.specs.Promise.{meaning as meaningI64}
-use Rattle.sleb128.specs.Signed.{form as signed-form}
 use Rattle.sleb128.proofs.Widths as signed-widths
 use Rattle.sleb128.proofs.Exactly as signed-exactly
 use Rattle.claims.specs.Readers.{Reader, loop64, recursive64, unsigned32, signed64, Value, Reply, number, refuse, Promised, width, form, OfWidth}
 use Rattle.claims.specs.Table.{Row}
 use Rattle.claims.specs.Claims.{Accepts, Refuses, Excludes, Exhausts, OneReply}
 use Rattle.claims.proofs.Same.{same64, same32, same-i64, apart, refused-same}
-use Rattle.claims.proofs.Rows.{row-refused, decide, Decided}
+use Rattle.claims.proofs.Rows.{row-refused, decide}
 
 pub record Laws (k : Reader) : Type 0 where
   pub means : Reply k → Answer (Value k × ℕ)

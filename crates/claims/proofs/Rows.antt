@@ -1,14 +1,14 @@
 -- The rows of document 01's table are the refusals of a reading, at any sound width: each gives its refusal, and a row holds wherever no
 -- accepted group stands.
-use Prim.Native.Nat.{ℕ, zero, suc, _+_, _-_, _≤_, _<_}
-use mathlib.Core.Path.{_≡_, refl, ap, sym, _∙_, subst}
-use mathlib.Core.List.{List, [], _∷_, _++_}
-use mathlib.Core.Bool.{Bool, true, false}
+use Prim.Native.Nat.{ℕ, suc, _+_, _-_, _≤_, _<_}
+use mathlib.Core.Path.{_≡_, refl, ap, sym, _∙_}
+use mathlib.Core.List.{List, _++_}
+use mathlib.Core.Bool.{true, false}
 use mathlib.Core.Logic.{_⊎_, inl, inr}
 use native.Mathlib.Omega.{arith}
-use lib.ListN.{length, getD, take, drop, take-append-drop, length-append, length-drop}
+use lib.ListN.{length, getD, take, drop, take-append-drop}
 use lib.Seq.{getD-take, getD-drop, length-take-le, take-length}
-use Rattle.words.specs.Answer.{Answer, gives, refused}
+use Rattle.words.specs.Answer.{refused}
 use Rattle.words.specs.Refusal.{numberOf}
 use Rattle.words.specs.declared.Refusal.{Refusal}
 use Rattle.words.specs.declared.Refusal.the-variants.{End, Overflow, NotShortest, Place, NoRoom, NotAStart, TooLong, NoStart}
@@ -21,7 +21,6 @@ use Rattle.groups.proofs.Walks.{Sound}
 use Rattle.groups.proofs.Exact.{group-length}
 use Rattle.groups.proofs.Standing.{Stands, front-group, behind, large-behind}
 use Rattle.claims.specs.Table.{EndRow, OverflowRow, NotShortestRow, Row}
-use Rattle.claims.proofs.Same.{same-refusal, refused-same, apart}
 
 -- high bytes are those that `run` counts
 high-run : (l : List ℕ) (j : ℕ) → j ≤ length l → High (take j l) → j ≤ run l

@@ -1,13 +1,11 @@
 -- An answer is determined by what it means.
 use Prim.Native.Nat.{ℕ}
 use mathlib.Core.Path.{_≡_, refl, ap, sym, _∙_}
-use mathlib.Core.Bool.{Bool, true, false}
 use native.Mathlib.Omega.{arith}
 use lib.Dec.{eqb}
 use lib.IntN.{ℤ}
 use Rattle.words.specs.Answer.{pick, Answer, gives, refused, meaning}
 use Rattle.words.specs.Refusal.{numberOf}
-use Rattle.words.specs.declared.Count.{Count}
 use Rattle.words.specs.declared.Refusal.{Refusal}
 use Rattle.words.specs.declared.Refusal.the-variants.{End, Overflow, NotShortest, Place, NoRoom, NotAStart, TooLong, NoStart}
 use Rattle.words.specs.declared.Written.{Written}

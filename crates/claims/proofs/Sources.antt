@@ -1,18 +1,17 @@
 -- The source's definitions say the same as ours.
 use Prim.Native.Nat.{ℕ, zero, suc, _+_, _-_, _*_, _/_, _%_, _^_, _≤_, _<_}
-use mathlib.Core.Path.{_≡_, refl, ap, sym, _∙_, subst}
+use mathlib.Core.Path.{_≡_, refl, ap, sym, _∙_}
 use mathlib.Core.List.{List, [], _∷_, _++_}
-use mathlib.Core.Bool.{Bool, true, false}
-use mathlib.Core.Logic.{_↔_, _⊎_, ⊎-elim}
+use mathlib.Core.Bool.{false}
+use mathlib.Core.Logic.{_↔_}
 use mathlib.Core.Option.{Option, some, none}
-use native.Mathlib.Nat.{mod-eq-of-lt, add-comm, mul-comm}
+use native.Mathlib.Nat.{mod-eq-of-lt, add-comm}
 use native.Mathlib.Numerals.{add-one}
 use native.Mathlib.Omega.{arith}
-use borrow.Author.Tests.{lt-ltb, le-ltb, le-leb, lt-leb, eq-eqb, ne-eqb, ltb-true, leb-true}
-use lib.Dec.{ltb, leb, eqb}
+use borrow.Author.Tests.{lt-ltb, le-leb, lt-leb, eq-eqb, ne-eqb, ltb-true, leb-true}
+use lib.Dec.{ltb, leb}
 use lib.ListN.{length}
-use Rattle.words.specs.Answer.{pick, both, Answer, gives, refused}
-use Rattle.words.specs.declared.Refusal.{Refusal}
+use Rattle.words.specs.Answer.{both, Answer, gives, refused}
 use Rattle.words.proofs.Cases.{by-order, by-test, both-true}
 use Rattle.groups.specs.Begins.{Begins}
 use Rattle.groups.specs.Group.{Bytes}

@@ -1,17 +1,17 @@
 -- The claims on forms: document 01's two sentences, the lengths, and what makes a signed form.
-use Prim.Native.Nat.{ℕ, zero, suc, _+_, _-_, _*_, _/_, _%_, _^_, _≤_, _<_}
-use mathlib.Core.Path.{_≡_, refl, ap, sym, _∙_, subst}
-use mathlib.Core.List.{List, [], _∷_}
-use mathlib.Core.Bool.{Bool, true, false}
+use Prim.Native.Nat.{ℕ, suc, _+_, _-_, _*_, _/_, _%_, _^_, _≤_, _<_}
+use mathlib.Core.Path.{_≡_, ap, _∙_}
+use mathlib.Core.List.{List, _∷_}
+use mathlib.Core.Bool.{true, false}
 use mathlib.Core.Logic.{_↔_}
-use native.Mathlib.Nat.{add-comm, mul-comm}
+use native.Mathlib.Nat.{add-comm}
 use native.Mathlib.Omega.{arith}
 use borrow.Author.Tests.{lt-ltb, le-ltb}
 use lib.Dec.{ltb}
-use lib.IntN.{ℤ, pos, negsuc, negℤ, subℕ, _+ℤ_}
+use lib.IntN.{ℤ, pos, subℕ, _+ℤ_}
 use lib.ListN.{length, getD}
 use lib.Pow.{pow-pos}
-use lib.Signed.{mag, _≤ℤ_, _<ℤ_}
+use lib.Signed.{mag}
 use Rattle.words.specs.Answer.{pick}
 use Rattle.words.proofs.Cases.{by-order, by-test}
 use Rattle.groups.specs.Group.{Group, digits, run}
@@ -20,12 +20,12 @@ use Rattle.groups.proofs.Run.{at-run, digits-below}
 use Rattle.groups.proofs.Spelling.{some-bytes, short, small-enough, spelled-group}
 use Rattle.groups.proofs.Exact.{group-length, longer, shortest}
 use Rattle.uleb128.specs.Unsigned as unsigned
-use Rattle.uleb128.proofs.Forms.{form-small, form-large, form-short, form-some}
+use Rattle.uleb128.proofs.Forms.{form-small, form-large}
 use Rattle.sleb128.specs.Signed.{twos, form, i64}
 use Rattle.sleb128.proofs.Forms.{form-spelled}
 use Rattle.sleb128.proofs.Widths.{spells, pow-seven, half-seven}
 use Rattle.sleb128.proofs.Exactly.{value-above, value-below, form-value}
-use Rattle.claims.specs.Claims.{Shortest, TwosComplement, Within, SignedForm, OneTooMany}
+use Rattle.claims.specs.Claims.{Shortest, TwosComplement, Within, SignedForm}
 use Rattle.claims.proofs.Laws.{within, within-mag}
 
 pub two-sentences : Shortest

@@ -1,13 +1,13 @@
 -- The claims on writers and the round trips, once for all four.
-use Prim.Native.Nat.{ℕ, zero, suc, _+_, _-_, _≤_, _<_}
-use mathlib.Core.Path.{_≡_, refl, ap, sym, _∙_, subst}
-use mathlib.Core.List.{List, [], _∷_, _++_, append-assoc}
+use Prim.Native.Nat.{ℕ, _+_, _-_, _≤_, _<_}
+use mathlib.Core.Path.{_≡_, refl, ap, sym, _∙_}
+use mathlib.Core.List.{List, _++_, append-assoc}
 use mathlib.Core.Logic.{_↔_}
 use native.Mathlib.Omega.{arith}
 use borrow.Author.Tests.{le-leb, lt-leb}
 use lib.ListN.{length, take, drop, length-append, length-drop, take-append-drop}
 use lib.Seq.{length-take-le, drop-at, drop-append-le, drop-drop, drop-append-seam}
-use Rattle.words.specs.Answer.{pick, Answer, gives, refused, meaning}
+use Rattle.words.specs.Answer.{gives, meaning}
 use Rattle.words.specs.declared.Count.{Count}
 use Rattle.words.specs.declared.Refusal.the-variants.{NoRoom}
 use Rattle.words.specs.declared.Written.{Written}
@@ -16,8 +16,7 @@ use Rattle.words.proofs.Cases.{by-order}
 use Rattle.groups.specs.Begins.{Begins}
 use Rattle.groups.specs.Group.{Bytes}
 use Rattle.groups.specs.Laying.{writing, laid, Lays}
-use Rattle.groups.specs.Width.{read}
-use Rattle.claims.specs.Readers.{Reader, loop64, recursive64, unsigned32, signed64, Value, Reply, number, Promised, width, form, OfWidth}
+use Rattle.claims.specs.Readers.{Reader, loop64, recursive64, unsigned32, signed64, Value, number, Promised, form, OfWidth}
 use Rattle.claims.specs.Writers.{Laying}
 use Rattle.claims.specs.Claims.{Writes, WriteRead, ReadWrite, MoreBehind, SomeByte, OneWritten}
 use Rattle.claims.proofs.Same.{same-written, apart}

@@ -6,7 +6,7 @@
 --   Shortest, Signed                           how a number is spelled
 --   WriteRead, ReadWrite, MoreBehind, SomeByte round trips, and what the source calls prefix-secure and productive
 --   One                                        no second answer meets a promise
-use Prim.Native.Nat.{ℕ, zero, suc, _+_, _-_, _*_, _/_, _%_, _^_, _≤_, _<_}
+use Prim.Native.Nat.{ℕ, _+_, _-_, _*_, _/_, _%_, _^_, _≤_, _<_}
 use mathlib.Core.Path.{_≡_}
 use mathlib.Core.List.{List, [], _∷_, _++_}
 use mathlib.Core.Bool.{Bool, true}

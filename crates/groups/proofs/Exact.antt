@@ -3,17 +3,16 @@
 --   Spells w below small top   the width's rules say what spelling so asks for: its "one too many" and its last byte allowed
 --   accepts                    what is spelled below the limit is accepted
 --   accepted                   what is accepted is spelled, and below the limit
-use Prim.Native.Nat.{ℕ, zero, suc, _+_, _-_, _*_, _/_, _%_, _^_, _≤_, _<_}
-use mathlib.Core.Path.{_≡_, refl, ap, sym, _∙_, subst}
+use Prim.Native.Nat.{ℕ, suc, _+_, _-_, _*_, _/_, _%_, _^_, _≤_, _<_}
+use mathlib.Core.Path.{_≡_, ap, sym, _∙_, subst}
 use mathlib.Core.List.{List, [], _∷_}
 use mathlib.Core.Bool.{Bool, true, false}
 use mathlib.Core.Logic.{_↔_}
-use native.Mathlib.Nat.{mod-eq-of-lt, mul-comm, mul-le-mul-left, mul-le-mul-right, pow-succ', lt-of-mul-lt-mul-left}
+use native.Mathlib.Nat.{mod-eq-of-lt, mul-comm, mul-le-mul-left, pow-succ', lt-of-mul-lt-mul-left}
 use native.Mathlib.Omega.{arith}
-use borrow.Author.Tests.{le-leb, lt-leb, lt-ltb, le-ltb}
-use lib.Dec.{leb, ltb}
+use borrow.Author.Tests.{le-leb, lt-leb, lt-ltb}
+use lib.Dec.{leb}
 use lib.ListN.{length, getD}
-use Rattle.words.specs.Answer.{both}
 use Rattle.words.proofs.Cases.{by-order, by-test, clash}
 use Rattle.groups.specs.Group.{run, Group, one, more}
 use Rattle.groups.specs.Form.{say, spell}

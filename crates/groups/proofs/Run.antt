@@ -1,18 +1,15 @@
 -- Laws of `run`, of groups and of digits.
-use Prim.Native.Nat.{ℕ, zero, suc, _+_, _-_, _*_, _%_, _^_, _≤_, _<_}
-use mathlib.Core.Path.{_≡_, refl, ap, sym, _∙_}
+use Prim.Native.Nat.{ℕ, zero, suc, _+_, _*_, _%_, _^_, _≤_, _<_}
+use mathlib.Core.Path.{_≡_, ap, _∙_}
 use mathlib.Core.List.{List, [], _∷_, _++_}
-use mathlib.Core.Bool.{Bool, true, false}
 use native.Mathlib.Nat.{mul-add, mul-assoc, mul-le-mul-left, pow-succ', pow-le-pow-right}
 use native.Mathlib.Numerals.{add-one}
 use native.Mathlib.Omega.{arith}
 use borrow.Author.Tests.{lt-ltb, le-ltb}
 use lib.ListN.{length, getD, take}
 use lib.Seq.{take-suc, length-take-le}
-use lib.Dec.{ltb}
-use Rattle.words.specs.Answer.{pick}
 use Rattle.words.proofs.Cases.{by-order}
-use Rattle.groups.specs.Group.{Bytes, High, run, Group, one, more, digits}
+use Rattle.groups.specs.Group.{run, digits}
 
 pub run-low : (b : ℕ) (s : List ℕ) → b < 128 → run (b ∷ s) ≡ 0
 unfolding run

@@ -4,14 +4,13 @@
 --   said below g        the number that a group's bytes spell
 --   Spelled m g         g spells m: the last byte says what is left, once it is below small
 --   spelled, unique     `spell` gives such a list, and there is no other
-use Prim.Native.Nat.{ℕ, zero, suc, _+_, _-_, _*_, _/_, _%_, _^_, _≤_, _<_}
-use mathlib.Core.Path.{_≡_, refl, ap, sym, _∙_, subst}
-use mathlib.Core.List.{List, [], _∷_, _++_}
+use Prim.Native.Nat.{ℕ, zero, suc, _+_, _*_, _/_, _%_, _^_, _≤_, _<_}
+use mathlib.Core.Path.{_≡_, refl, sym, subst}
+use mathlib.Core.List.{List, [], _∷_}
 use mathlib.Core.Bool.{Bool, true, false}
-use native.Mathlib.Nat.{mod-eq-of-lt, pow-succ', mul-assoc, mul-comm, mul-le-mul-left, mul-left-comm}
+use native.Mathlib.Nat.{mod-eq-of-lt, pow-succ', mul-assoc, mul-le-mul-left, mul-left-comm}
 use native.Mathlib.Omega.{arith}
 use borrow.Author.Tests.{lt-ltb, le-ltb}
-use lib.Dec.{ltb}
 use lib.ListN.{length, getD}
 use Rattle.words.specs.declared.Written.{Written}
 use Rattle.words.proofs.Cases.{by-order}

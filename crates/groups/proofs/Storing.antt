@@ -1,5 +1,5 @@
 -- Laying bytes down: the two answers of every writer, and what the loop that stores a group holds.
-use Prim.Native.Nat.{ℕ, zero, suc, _+_, _-_, _*_, _/_, _%_, _≤_, _<_}
+use Prim.Native.Nat.{ℕ, zero, suc, _+_, _-_, _/_, _%_, _≤_, _<_}
 use mathlib.Core.Path.{_≡_, refl, ap, sym, _∙_}
 use mathlib.Core.List.{List, [], _∷_, _++_}
 use mathlib.Core.Bool.{Bool, true, false}
@@ -9,9 +9,8 @@ use native.Mathlib.Omega.{arith}
 use borrow.Author.Tests.{le-leb, lt-leb}
 use lib.ListN.{length, getD, take, drop, set, length-set}
 use lib.Seq.{paste, paste-zero, paste-suc, take-length, getD-drop, drop-drop}
-use Rattle.words.specs.Answer.{pick, gives, refused, meaning}
+use Rattle.words.specs.Answer.{gives}
 use Rattle.words.specs.declared.Count.{Count}
-use Rattle.words.specs.declared.Written.{Written}
 use Rattle.words.specs.declared.Written.the-variants.{Bytes, Refused}
 use Rattle.words.specs.declared.Refusal.the-variants.{NoRoom}
 use Rattle.groups.specs.Form.{say, groups}

@@ -1,23 +1,17 @@
 -- The walk from a start on: what its loop holds, and what its answers say of a reading at any width of at most ten bytes.
-use Prim.Native.Nat.{ℕ, zero, suc, _+_, _-_, _*_, _%_, _^_, _≤_, _<_}
-use mathlib.Core.Path.{_≡_, refl, ap, sym, _∙_}
-use mathlib.Core.List.{List, [], _∷_, _++_}
-use mathlib.Core.Bool.{Bool, true, false, not}
-use native.Mathlib.Nat.{add-comm, mul-comm, mul-assoc, pow-succ', mul-le-mul-left, mod-lt}
+use Prim.Native.Nat.{ℕ, suc, _+_, _*_, _%_, _^_, _≤_, _<_}
+use mathlib.Core.Path.{_≡_, refl, _∙_}
+use mathlib.Core.List.{List}
+use native.Mathlib.Nat.{mul-comm, pow-succ', mul-le-mul-left}
 use native.Mathlib.Numerals.{add-one}
 use native.Mathlib.Omega.{arith}
 use borrow.Author.Tests.{lt-ltb, le-ltb, le-leb, lt-leb, eq-eqb, ne-eqb}
-use lib.Dec.{leb, ltb, eqb}
-use lib.ListN.{length, getD, take, drop, length-take, length-drop}
-use lib.Seq.{getD-drop, take-suc}
-use Rattle.words.specs.Answer.{pick, both, Answer, gives, refused}
-use Rattle.words.proofs.Cases.{by-order}
+use lib.ListN.{length, getD, take, drop, length-drop}
+use lib.Seq.{getD-drop}
 use Rattle.groups.specs.Group.{run, digits}
-use Rattle.groups.specs.Width.{Width, reading, read}
 use Rattle.groups.specs.Promise.{walking, walked, Walks}
-use Rattle.groups.specs.declared.reading.Walked.{Walked}
 use Rattle.groups.specs.declared.reading.Walked.the-variants.{Past, Open, Long, Closed}
-use Rattle.groups.proofs.Run.{run-within, run-more, run-ends, at-run, digits-take, digits-take-below, pow-up}
+use Rattle.groups.proofs.Run.{run-within, run-more, run-ends, digits-take, digits-take-below, pow-up}
 
 -- what the loop has done: the high bytes passed, what they sum to, and what the next one weighs
 pub record Going (s : List ℕ) (at place high sum weight : ℕ) : Type 0 where

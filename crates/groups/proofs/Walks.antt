@@ -4,23 +4,23 @@
 --   Closing s at ..         the bytes from the place at on close: what `Walked::Closed` says
 --   told                    what each answer of `walk` says
 --   past, open, .. reads-.. the answer of a reading from it
-use Prim.Native.Nat.{ℕ, zero, suc, _+_, _-_, _*_, _%_, _^_, _≤_, _<_}
-use mathlib.Core.Path.{_≡_, refl, ap, sym, _∙_, subst}
+use Prim.Native.Nat.{ℕ, _+_, _-_, _*_, _^_, _≤_, _<_}
+use mathlib.Core.Path.{_≡_, refl, sym, _∙_, subst}
 use mathlib.Core.List.{List}
-use mathlib.Core.Bool.{Bool, true, false}
+use mathlib.Core.Bool.{true, false}
 use native.Mathlib.Nat.{mod-eq-of-lt}
 use native.Mathlib.Omega.{arith}
 use borrow.Author.Tests.{lt-ltb, le-ltb, le-leb, lt-leb, eq-eqb, ne-eqb}
 use lib.ListN.{length, getD, take, drop}
-use Rattle.words.specs.Answer.{Answer, gives, refused}
+use Rattle.words.specs.Answer.{gives, refused}
 use Rattle.words.proofs.Cases.{by-order}
 use Rattle.groups.specs.Group.{run, digits}
-use Rattle.groups.specs.Width.{Width, reading, read}
+use Rattle.groups.specs.Width.{Width, read}
 use Rattle.groups.specs.Promise.{walking, walked, Walks}
 use Rattle.groups.specs.declared.reading.Walked.{Walked}
 use Rattle.groups.specs.declared.reading.Walked.the-variants.{Past, Open, Long, Closed}
 use Rattle.groups.proofs.Run.{run-within, in-run, at-run, digits-take, digits-take-below, limit}
-use Rattle.groups.proofs.Rows.{row-end, row-large, row-many, row-number, read-past, read-from}
+use Rattle.groups.proofs.Rows.{row-end, row-large, row-many, row-number, read-from}
 
 pub record Sound {A : Type 0} (w : Width A) : Type 0 where
   pub some : 0 < w .most

@@ -1,7 +1,7 @@
 -- The few facts on a machine's signed numbers: the sign, the complement and the magnitude of an i64.
-use Prim.Native.Nat.{ℕ, zero, suc, _-_, _^_, _≤_, _<_}
-use mathlib.Core.Path.{_≡_, refl, ap, sym, _∙_}
-use mathlib.Core.Bool.{Bool, true, false}
+use Prim.Native.Nat.{ℕ, suc, _-_, _^_, _<_}
+use mathlib.Core.Path.{_≡_, refl}
+use mathlib.Core.Bool.{true, false}
 use native.Mathlib.Omega.{arith}
 use borrow.Author.Tests.{le-ltb}
 use lib.Dec.{T}
@@ -10,7 +10,7 @@ use lib.Signed.{mag, ltZ, nonNeg}
 use mir.Syntax.{w64}
 use mir.Val.{toZ, ofZ, Fits, SFits}
 use mir.ValLaws.{toZ-pos, toZ-neg, toZ-ofZ}
-use Rattle.sleb128.specs.Signed.{below, signed}
+use Rattle.sleb128.specs.Signed.{below}
 
 pub below-sign : (v : ℤ) → SFits w64 v → ltZ (toZ w64 (ofZ w64 v)) (pos 0) ≡ below v
 below-sign v f = rw (toZ-ofZ w64 v f) (sign v)

@@ -1,13 +1,12 @@
 -- The answers of a group that closes, by the tests on the way: what `closed` cites.
-use Prim.Native.Nat.{ℕ, zero, suc, _+_, _-_, _*_, _^_, _≤_, _<_}
-use mathlib.Core.Path.{_≡_, refl, ap, sym, _∙_}
-use mathlib.Core.Bool.{Bool, true, false}
+use Prim.Native.Nat.{ℕ, _+_, _*_, _^_, _≤_, _<_}
+use mathlib.Core.Path.{_≡_}
+use mathlib.Core.Bool.{Bool, false}
 use native.Mathlib.Nat.{mul-zero, add-zero}
 use native.Mathlib.Omega.{arith}
-use borrow.Author.Tests.{lt-ltb, le-ltb, le-leb, lt-leb, eq-eqb, ne-eqb}
+use borrow.Author.Tests.{lt-ltb, le-ltb, le-leb, lt-leb, ne-eqb}
 use lib.Dec.{leb, ltb, eqb}
-use lib.IntN.{ℤ}
-use Rattle.words.specs.Answer.{pick, both, Answer, gives, refused}
+use Rattle.words.specs.Answer.{gives, refused}
 use Rattle.words.proofs.Cases.{both-false}
 use Rattle.groups.proofs.Run.{limit, pow-up}
 use Rattle.sleb128.specs.Signed.{signed}

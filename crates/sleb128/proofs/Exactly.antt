@@ -1,25 +1,24 @@
 -- A reading at the signed width accepts exactly the forms of the numbers from -2 to the 63 to 2 to the 63, less one.
-use Prim.Native.Nat.{ℕ, zero, suc, _+_, _-_, _*_, _^_, _≤_, _<_}
-use mathlib.Core.Path.{_≡_, refl, ap, sym, _∙_, subst}
-use mathlib.Core.List.{List, _++_}
-use mathlib.Core.Bool.{Bool, true, false}
+use Prim.Native.Nat.{ℕ, _+_, _-_, _*_, _^_, _≤_, _<_}
+use mathlib.Core.Path.{_≡_, ap, sym, _∙_}
+use mathlib.Core.List.{List}
+use mathlib.Core.Bool.{true, false}
 use native.Mathlib.Nat.{mul-comm, mul-le-mul-left}
 use native.Mathlib.Omega.{arith}
 use borrow.Author.Tests.{lt-ltb, le-ltb}
-use lib.IntN.{ℤ, pos, negsuc, subℕ}
-use lib.ListN.{length, getD, drop}
+use lib.IntN.{ℤ, pos, negsuc}
+use lib.ListN.{length, getD}
 use lib.Signed.{mag}
 use Rattle.words.specs.Answer.{gives}
 use Rattle.words.proofs.Cases.{by-order}
-use Rattle.groups.specs.Group.{Bytes, Group, digits, run}
+use Rattle.groups.specs.Group.{Bytes, Group, run}
 use Rattle.groups.specs.Width.{read, tooLarge, tooMany}
-use Rattle.groups.specs.Form.{say, spell}
 use Rattle.groups.specs.Begins.{Begins}
 use Rattle.groups.proofs.Run.{at-run}
 use Rattle.groups.proofs.Spelling.{said, said-digits, spelled-group, spelled-said, last-small, group-bounds, complements}
 use Rattle.groups.proofs.Exact.{accepts, accepted, group-length}
-use Rattle.groups.proofs.Standing.{Stands, stands, standing}
-use Rattle.sleb128.specs.Signed.{below, signed, form, twos, i64}
+use Rattle.groups.proofs.Standing.{stands, standing}
+use Rattle.sleb128.specs.Signed.{below, form, twos, i64}
 use Rattle.sleb128.proofs.Forms.{form-spelled}
 use Rattle.sleb128.proofs.Widths.{sound, spells, pow-seven, half-seven}
 

@@ -3,24 +3,24 @@ use Prim.Native.Nat.{ℕ, zero, suc, _+_, _-_, _*_, _%_, _^_, _≤_, _<_}
 use mathlib.Core.Path.{_≡_, refl, ap, sym, _∙_}
 use mathlib.Core.List.{List}
 use mathlib.Core.Bool.{Bool, true, false}
-use native.Mathlib.Nat.{add-zero, mul-zero, mul-sub, mul-suc, mul-comm, mul-add, mul-le-mul-left, pow-suc, pow-succ', mod-lt}
+use native.Mathlib.Nat.{add-zero, mul-zero, mul-sub, mul-suc, mul-comm, mul-add, mul-le-mul-left, pow-suc, pow-succ'}
 use native.Mathlib.Numerals.{add-one}
 use native.Mathlib.Omega.{arith}
 use borrow.Author.Tests.{lt-ltb, le-ltb, le-leb, lt-leb, eq-eqb, ne-eqb, ltb-false}
 use lib.Dec.{leb, ltb, eqb}
-use lib.IntN.{ℤ, pos, negsuc, subℕ}
-use lib.ListN.{length, getD, take, drop}
+use lib.IntN.{negsuc}
+use lib.ListN.{getD, take, drop}
 use lib.Pow.{pow-add}
 use lib.Seq.{length-take-le}
-use Rattle.words.specs.Answer.{pick, both, gives, refused}
-use Rattle.words.proofs.Cases.{by-order, both-false}
-use Rattle.groups.specs.Group.{run, digits}
+use Rattle.words.specs.Answer.{gives}
+use Rattle.words.proofs.Cases.{by-order}
+use Rattle.groups.specs.Group.{digits}
 use Rattle.groups.specs.Form.{say}
 use Rattle.groups.specs.Width.{read}
 use Rattle.groups.proofs.Run.{digits-take, digits-take-below}
 use Rattle.groups.proofs.Walks.{Sound, Closing, closed-large, closed-many, closed-number, closed-digits, closed-below}
 use Rattle.groups.proofs.Exact.{Spells}
-use Rattle.sleb128.specs.Signed.{signed, twos, either, i64}
+use Rattle.sleb128.specs.Signed.{signed, twos, i64}
 use Rattle.sleb128.specs.Inner.{closing, Closes}
 use Rattle.sleb128.specs.Promise.{meaning, ReadsI64}
 use Rattle.sleb128.specs.declared.ReadI64.{ReadI64}

@@ -1,22 +1,21 @@
 -- A reading at an unsigned width accepts exactly the forms of the numbers below the width's limit.
-use Prim.Native.Nat.{ℕ, zero, suc, _+_, _-_, _*_, _^_, _≤_, _<_}
-use mathlib.Core.Path.{_≡_, refl, ap, sym, _∙_, subst}
-use mathlib.Core.List.{List, _++_}
-use mathlib.Core.Bool.{Bool, true, false}
+use Prim.Native.Nat.{ℕ, _+_, _-_, _*_, _^_, _<_}
+use mathlib.Core.Path.{_≡_, ap, sym, _∙_}
+use mathlib.Core.List.{List}
+use mathlib.Core.Bool.{false}
 use native.Mathlib.Omega.{arith}
-use lib.ListN.{length, getD, drop}
+use lib.ListN.{length}
 use Rattle.words.specs.Answer.{gives, refused}
 use Rattle.words.specs.Refusal.{numberOf}
 use Rattle.words.specs.declared.Count.{Count}
 use Rattle.words.specs.declared.Refusal.{Refusal}
-use Rattle.groups.specs.Group.{Bytes, digits, run}
+use Rattle.groups.specs.Group.{Bytes, run}
 use Rattle.groups.specs.Width.{read}
-use Rattle.groups.specs.Form.{spell}
 use Rattle.groups.specs.Begins.{Begins}
 use Rattle.groups.proofs.Run.{at-run}
 use Rattle.groups.proofs.Spelling.{said, said-digits, spelled-said}
 use Rattle.groups.proofs.Exact.{accepts, accepted, group-length}
-use Rattle.groups.proofs.Standing.{Stands, stands, standing, count-within}
+use Rattle.groups.proofs.Standing.{stands, standing}
 use Rattle.uleb128.specs.Unsigned.{form, unsigned}
 use Rattle.uleb128.specs.Promise.{meaning64, Reads}
 use Rattle.uleb128.specs.declared.reading.ReadU64.{ReadU64}

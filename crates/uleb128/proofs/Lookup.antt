@@ -1,13 +1,13 @@
 -- The table of growth values: its rule, tested once over the whole table, and what looking a number up in it tells.
 use Prim.Native.Nat.{ℕ, zero, suc, _+_, _^_, _≤_, _<_}
-use mathlib.Core.Path.{_≡_, refl, ap, sym, _∙_}
+use mathlib.Core.Path.{_≡_, ap, _∙_}
 use mathlib.Core.List.{List, [], _∷_}
 use native.Mathlib.Omega.{arith}
-use native.Mathlib.Nat.{add-zero, add-suc, suc-add}
+use native.Mathlib.Nat.{add-zero}
 use lib.ListN.{length, getD}
 use Rattle.uleb128.specs.Unsigned.{form}
 use Rattle.uleb128.specs.Promise.{LengthU64}
-use Rattle.uleb128.proofs.Forms.{form-some, form-short, form-long}
+use Rattle.uleb128.proofs.Forms.{form-short, form-long}
 
 -- n values of f, from i on
 table : (ℕ → ℕ) → ℕ → ℕ → List ℕ

@@ -1,17 +1,17 @@
 -- The recursive forms, a byte at a time. Reading: a byte of 128 or more stands in front of a reading of one byte less at the
 -- next place. Writing: a byte stored in front of the rest.
-use Prim.Native.Nat.{ℕ, zero, suc, _+_, _-_, _*_, _/_, _%_, _^_, _≤_, _<_}
+use Prim.Native.Nat.{ℕ, suc, _+_, _-_, _*_, _%_, _^_, _≤_, _<_}
 use mathlib.Core.Path.{_≡_, refl, ap, sym, _∙_, subst}
 use mathlib.Core.List.{List, [], _∷_}
-use mathlib.Core.Bool.{Bool, true, false, not}
+use mathlib.Core.Bool.{Bool, true, false}
 use native.Mathlib.Nat.{add-zero, mul-pos, mod-eq-of-lt}
 use native.Mathlib.Numerals.{add-one}
 use native.Mathlib.Omega.{arith}
 use borrow.Author.Tests.{lt-ltb, le-ltb, le-leb, lt-leb, eq-eqb, ne-eqb}
-use lib.Dec.{leb, ltb, eqb, leb·suc-suc, eqb·suc-suc}
-use lib.ListN.{length, getD, take, drop, set, drop-of-length-le, List·getD-eq-default}
-use lib.Seq.{sets, drop-cons, set-comm}
-use Rattle.words.specs.Answer.{pick, both, Answer, gives, refused}
+use lib.Dec.{ltb, eqb, leb·suc-suc, eqb·suc-suc}
+use lib.ListN.{length, getD, take, drop, drop-of-length-le, List·getD-eq-default}
+use lib.Seq.{drop-cons}
+use Rattle.words.specs.Answer.{pick, Answer, gives, refused}
 use Rattle.words.proofs.Cases.{by-order, both-false}
 use Rattle.words.specs.Refusal.{numberOf}
 use Rattle.words.specs.declared.Count.{Count}
@@ -19,7 +19,7 @@ use Rattle.words.specs.declared.Refusal.{Refusal}
 use Rattle.words.specs.declared.Refusal.the-variants as Why
 use Rattle.groups.specs.Group.{Bytes, run, digits}
 use Rattle.groups.specs.Width.{runsOut, tooLarge, tooMany, reading, read}
-use Rattle.groups.proofs.Run.{run-low, run-high, run-within, at-run, digits-take, pow-up}
+use Rattle.groups.proofs.Run.{run-low, run-high, at-run, digits-take, pow-up}
 use Rattle.groups.proofs.Rows.{read-from, row-end, row-large, row-number}
 use Rattle.groups.proofs.Walks.{overrun}
 use Rattle.groups.proofs.Standing.{stands, count-within}

@@ -1,17 +1,14 @@
 -- Unsigned widths: their rules are those of spelling, and what a walk's answer then says at a width.
-use Prim.Native.Nat.{ℕ, zero, suc, _+_, _-_, _*_, _%_, _^_, _≤_, _<_}
-use mathlib.Core.Path.{_≡_, refl, ap, sym, _∙_}
+use Prim.Native.Nat.{ℕ, _+_, _-_, _*_, _^_, _≤_, _<_}
+use mathlib.Core.Path.{_≡_, refl, sym, _∙_}
 use mathlib.Core.List.{List}
-use mathlib.Core.Bool.{Bool, true, false}
-use native.Mathlib.Nat.{pos-of-ne-zero, mul-le-mul-left, pow-succ', mul-comm}
+use mathlib.Core.Bool.{false}
+use native.Mathlib.Nat.{pos-of-ne-zero}
 use native.Mathlib.Omega.{arith}
 use borrow.Author.Tests.{le-leb, lt-leb, eq-eqb, ne-eqb, eqb-false}
-use lib.Dec.{leb, eqb}
-use lib.ListN.{length, getD, take, drop}
+use lib.ListN.{length, drop}
 use Rattle.words.specs.declared.Refusal.the-variants as Why
-use Rattle.words.proofs.Cases.{by-order}
-use Rattle.groups.specs.Group.{run, digits}
-use Rattle.groups.specs.Width.{read}
+use Rattle.groups.specs.Group.{run}
 use Rattle.groups.proofs.Rows.{read-past}
 use Rattle.groups.proofs.Walks.{Sound, Opening, Closing, overrun, open-short, closed-large, closed-many, closed-number, closed-digits, closed-limit}
 use Rattle.groups.proofs.Exact.{Spells}

@@ -1,5 +1,5 @@
 -- `groups::walk` meets its promise: the loop holds `Going`, and each way out of it is a law of `Walking`.
-use Prim.Native.Nat.{ℕ, _+_, _*_, _-_, _<_, _^_}
+use Prim.Native.Nat.{_+_, _*_, _-_, _<_, _^_}
 use lib.ListN.{length}
 use borrow.Author.Needs.{needs}
 use native.Mathlib.Omega.{arith}

@@ -1,9 +1,8 @@
 -- `groups::store` meets its promise: the loop holds `Stored`, and each way out is a law of `Storing`.
-use Prim.Native.Nat.{ℕ, suc, _-_, _+_, _%_, _≤_}
-use lib.ListN.{length, length-set}
+use Prim.Native.Nat.{_-_, _%_}
+use lib.ListN.{length-set}
 use borrow.Author.Needs.{needs}
 use native.Mathlib.Omega.{arith}
-use denote.Ref.{now}
 use Rattle.groups.proofs.Storing.{Stored, none-stored, one-stored, all-stored, no-room, none-laid, length-groups, say-below}
 use Rattle.groups.proofs.writing.store.Statement.{statement}
 use Rattle.groups.proofs.writing.store.Tie as tie

@@ -1,7 +1,6 @@
 -- `uleb128::write_rest` keeps what it promises inside the crate. The measure is the bytes still allowed; each answer is a law
 -- of `Stores`.
 use Prim.Native.Nat.{ℕ, _<_}
-use mathlib.Core.Path.{_∙_}
 use native.Mathlib.Omega.{arith}
 use borrow.Author.Needs.{needs}
 use borrow.Fn.Kinds.{In}
