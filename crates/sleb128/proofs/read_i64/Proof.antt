@@ -1,4 +1,4 @@
--- `sleb128::read_i64` meets its promise: what the walk told is a law over the width, and of a group that closes a law of `Widths`.
+-- `sleb128::read_i64` meets its promise: what the walk told is a law over the width, and of a group that closes a law of `ClosedGroups`.
 use mathlib.Core.Path.{sym}
 use native.Mathlib.Omega.{arith}
 use borrow.Author.Needs.{needs}
@@ -6,7 +6,8 @@ use denote.Ref.{now}
 use Rattle.groups.proofs.Rows.{read-past}
 use Rattle.groups.proofs.Walks.{told, Closing, closed-below, open-short, overrun}
 use Rattle.sleb128.specs.Signed.{i64}
-use Rattle.sleb128.proofs.Widths.{sound, closes-above, closes-below, reads-above, reads-below}
+use Rattle.sleb128.proofs.Widths.{sound}
+use Rattle.sleb128.proofs.ClosedGroups.{closes-above, closes-below, reads-above, reads-below}
 use Rattle.sleb128.proofs.read_i64.Statement.{statement}
 use Rattle.sleb128.proofs.read_i64.Tie as tie
 
