@@ -23,6 +23,11 @@ use Rattle.claims.proofs.Laws.{laws, accepts, refuses, excludes, exhaus
 use Rattle.claims.proofs.Trips.{writes, write-read, read-write, more-behind, some-byte, one, one-written}
 use Rattle.claims.proofs.Spelled.{two-sentences, twos-complement, signed-form, one-too-many, signed-most}
 use Rattle.claims.proofs.Sources.{parse-same, serialize-same}
+use Rattle.claims.proofs.Same.{same-step, same-set}
+use Rattle.claims.proofs.Damage.{front, back}
+use Rattle.claims.proofs.Stepped.{step-rows}
+use Rattle.claims.proofs.Settled.{set-down-rows}
+use Rattle.claims.proofs.Turned.{turn-rows}
 
 length-is : (k : Reader) (v : Value k) (n : Count) → Length k v n → n .0 ≡ length (form k v)
 length-is loop64 v n p = p .is
@@ -87,4 +92,12 @@ all = record {
   one-reply = λ k. one-reply k (laws k);
   one-written = one-written;
   one-length = one-length;
+  step-rows = step-rows;
+  set-down-rows = set-down-rows;
+  damage-front = front;
+  damage-back = back;
+  one-step = λ rule s p r r′ a b. same-step r r′ (a .is ∙ sym (b .is));
+  one-set-down = λ s p r r′ a b. same-set r r′ (a .is ∙ sym (b .is));
+  turn-rows = turn-rows;
+  one-turn = λ v r r′ a b. a .is ∙ sym (b .is);
 }

@@ -23,7 +23,7 @@ use Rattle.groups.proofs.Standing.{Stands, front-group, behind, large-behind}
 use Rattle.claims.specs.Table.{EndRow, OverflowRow, NotShortestRow, Row}
 
 -- high bytes are those that `run` counts
-high-run : (l : List ℕ) (j : ℕ) → j ≤ length l → High (take j l) → j ≤ run l
+pub high-run : (l : List ℕ) (j : ℕ) → j ≤ length l → High (take j l) → j ≤ run l
 high-run l j h f =
     by-order (run l) j
     (λ lt.
@@ -32,7 +32,7 @@ high-run l j h f =
     absurd (omega (arith, f (run l) (rw (length-take-le j l h) lt))))
     (λ ge. ge)
 
-run-high : (l : List ℕ) (j : ℕ) → j ≤ run l → High (take j l)
+pub run-high : (l : List ℕ) (j : ℕ) → j ≤ run l → High (take j l)
 run-high l j h i lt =
     let n : length (take j l) ≡ j = length-take-le j l (omega (arith, run-within l)) in
     let k : i < j = omega arith in

@@ -15,6 +15,14 @@ use Rattle.uleb128.specs.declared.reading.ReadU64.{ReadU64}
 use Rattle.uleb128.specs.declared.reading.ReadU64.the-variants as R64
 use Rattle.uleb128.specs.declared.reading.ReadU32.{ReadU32}
 use Rattle.uleb128.specs.declared.reading.ReadU32.the-variants as R32
+use Rattle.blocks.specs.Block.{Val, unsigned, signed, Stepped, number, gap, tail, finished, refuses}
+use Rattle.blocks.specs.Promise.{valueOf, meaning as meaningStep, meaningSet}
+use Rattle.blocks.specs.declared.Step.{Step}
+use Rattle.blocks.specs.declared.Step.the-variants as S
+use Rattle.blocks.specs.declared.Value.{Value}
+use Rattle.blocks.specs.declared.Value.the-variants as N
+use Rattle.blocks.specs.declared.SetDown.{SetDown}
+use Rattle.blocks.specs.declared.SetDown.the-variants as D
 use Rattle.sleb128.specs.Promise.{meaning as meaningI64}
 use Rattle.sleb128.specs.declared.ReadI64.{ReadI64}
 use Rattle.sleb128.specs.declared.ReadI64.the-variants as RI64
@@ -99,3 +107,39 @@ same-i64 = same-by meaningI64 back is
     is : (r : ReadI64) → back (meaningI64 r) ≡ r
     is (RI64.Number v n) = refl
     is (RI64.Refused a) = ap RI64.Refused (refusal-back a)
+
+pub same-set : (r r′ : SetDown) → meaningSet r ≡ meaningSet r′ → r ≡ r′
+same-set = same-by meaningSet back is
+  where
+    back : Answer ℕ → SetDown
+    back (gives p) = D.At (record { place = record { 0 = p } })
+    back (refused k) = D.Refused (refusalOf k)
+
+    is : (r : SetDown) → back (meaningSet r) ≡ r
+    is (D.At c) = refl
+    is (D.Refused a) = ap D.Refused (refusal-back a)
+
+pub same-step : (r r′ : Step) → meaningStep r ≡ meaningStep r′ → r ≡ r′
+same-step = same-by meaningStep back is
+  where
+    value : Val → Value
+    value (unsigned v) = N.Unsigned v
+    value (signed v) = N.Signed v
+
+    value-is : (v : Value) → value (valueOf v) ≡ v
+    value-is (N.Unsigned v) = refl
+    value-is (N.Signed v) = refl
+
+    back : Stepped → Step
+    back (number v n p) = S.Number (value v) (record { 0 = n }) (record { place = record { 0 = p } })
+    back (gap k n p) = S.Gap (refusalOf k) (record { 0 = n }) (record { place = record { 0 = p } })
+    back (tail n p) = S.Tail (record { 0 = n }) (record { place = record { 0 = p } })
+    back (finished p) = S.Finished (record { place = record { 0 = p } })
+    back (refuses k) = S.Refused (refusalOf k)
+
+    is : (r : Step) → back (meaningStep r) ≡ r
+    is (S.Number v n c) = rw (value-is v)
+    is (S.Gap a n c) = rw (refusal-back a)
+    is (S.Tail n c) = refl
+    is (S.Finished c) = refl
+    is (S.Refused a) = rw (refusal-back a)

@@ -1,4 +1,4 @@
--- What is claimed: the demands of document 01 for single numbers, in its words and order, over the promises that the functions'
+-- What is claimed: the demands of document 01, in its words and order, over the promises that the functions'
 -- `ensures` are. `Claims` has a field for each; proofs/All.antt has its one value, `all`. A list of bytes is `Bytes`: any slice is.
 --
 --   Accepts, Refuses, Excludes, Exhausts       demand 2, readers
@@ -33,6 +33,13 @@ use Rattle.uleb128.specs.declared.reading.ReadU64.{ReadU64}
 use Rattle.sleb128.specs.Signed as signed
 use Rattle.claims.specs.Readers.{Reader, loop64, recursive64, unsigned32, signed64, Value, Reply, number, refuse, Promised, width, form, OfWidth}
 use Rattle.claims.specs.Writers.{Laying, Length}
+use Rattle.blocks.specs.Promise.{Steps, SetsDown}
+use Rattle.blocks.specs.declared.Rule.{Rule}
+use Rattle.blocks.specs.declared.SetDown.{SetDown}
+use Rattle.blocks.specs.declared.Step.{Step}
+use Rattle.turns.specs.Turns.{Means}
+use Rattle.turns.specs.declared.Turn.{Turn}
+use Rattle.claims.specs.Blocks.{StepRows, SetDownRows, Front, Back, TurnRows}
 use Rattle.claims.specs.Table.{Row}
 use Rattle.claims.specs.Source.{spec-parse, spec-serialize-helper}
 use Rattle.claims.specs.Try.{Starred}
@@ -186,3 +193,13 @@ pub record Claims : Type 0 where
   pub one-reply : (k : Reader) → OneReply k
   pub one-written : (k : Reader) → OneWritten k
   pub one-length : (k : Reader) → OneLength k
+  -- blocks: each answer exactly when, and demand 3
+  pub step-rows : (rule : Rule) (s : List ℕ) (p : ℕ) (r : Step) → Bytes s → Steps rule s p r → StepRows rule s p r
+  pub set-down-rows : (s : List ℕ) (p : ℕ) (r : SetDown) → SetsDown s p r → SetDownRows s p r
+  pub damage-front : Front
+  pub damage-back : Back
+  pub one-step : (rule : Rule) (s : List ℕ) (p : ℕ) (r r′ : Step) → Steps rule s p r → Steps rule s p r′ → r ≡ r′
+  pub one-set-down : (s : List ℕ) (p : ℕ) (r r′ : SetDown) → SetsDown s p r → SetsDown s p r′ → r ≡ r′
+  -- turns
+  pub turn-rows : (v : ℤ) (r : Turn) → Means v r → TurnRows v r
+  pub one-turn : (v : ℤ) (r r′ : Turn) → Means v r → Means v r′ → r ≡ r′

@@ -3,4 +3,5 @@ pub mod Writers
 pub mod Table
 pub mod Source
 pub mod Try
+pub mod Blocks
 pub mod Claims

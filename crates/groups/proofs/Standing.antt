@@ -5,7 +5,7 @@
 --   stands, standing      from the reading to the group, and back
 use Prim.Native.Nat.{ℕ, suc, _+_, _-_, _≤_, _<_}
 use mathlib.Core.Path.{_≡_, refl, ap, sym, _∙_}
-use mathlib.Core.List.{List, [], _∷_, _++_}
+use mathlib.Core.List.{List, [], _∷_, _++_, append-nil}
 use mathlib.Core.Bool.{Bool, true, false}
 use native.Mathlib.Numerals.{add-one}
 use native.Mathlib.Omega.{arith}
@@ -130,3 +130,15 @@ count-within w {n = n} sound g =
     (in-run (g .group) (w .most - 1) (omega (arith, g .count, sound .some)))) in
     clash (g .not-large) t)
     (λ l. l)
+
+-- the count is that of the bytes through the first below 128
+pub reading-count : {A : Type 0} (w : Width A) (l : List ℕ) {v : A} {n : ℕ} → reading w l ≡ gives (v, n) → n ≡ run l + 1
+unfolding reading
+reading-count w l e = paired (accept (tooMany w l) 3 _ (accept (tooLarge w l) 2 _ (accept (runsOut w l) 1 _ e .1) .1) .1) .1
+
+-- a group read where it stands is read as it is alone
+pub alone : {A : Type 0} (w : Width A) (l : List ℕ) → Bytes l → run l < length l → reading w l ≡ reading w (take (run l + 1) l)
+alone w l bytes h =
+    let r = front-group l bytes h in
+    ap (reading w) (sym (take-append-drop (run l + 1) l)) ∙ behind w (drop (run l + 1) l) r ∙ sym (behind w [] r)
+    ∙ ap (reading w) (append-nil (take (run l + 1) l))

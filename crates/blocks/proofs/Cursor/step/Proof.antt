@@ -1,0 +1,91 @@
+-- `blocks::Cursor::step` meets its promise: a law of `Rows` for each answer.
+use mathlib.Core.Path.{_≡_, refl, sym, _∙_}
+use mathlib.Core.Bool.{true}
+use native.Mathlib.Omega.{arith}
+use borrow.Author.Tests.{not-true, not-false}
+use denote.Ref.{now}
+use Rattle.blocks.specs.Block.{isStart}
+use Rattle.blocks.proofs.Runs.{within}
+use Rattle.blocks.proofs.Rows.{step-too-long, step-past, step-finished, step-not-a-start, step-tail, step-group}
+use borrow.Author.Needs.{needs}
+use Rattle.blocks.proofs.Cursor.step.Statement.{statement}
+use Rattle.blocks.proofs.Cursor.step.Tie as tie
+
+-- past the test for a start
+starts : (c : tie.Else4) → isStart (now (c .before .before .before .before .before .before .before .args .block)) (c .before .before .before .before .before .before .before .args .self .place .0) ≡ true
+starts c = sym (c .before .is-start .ensures) ∙ not-false _ (c .if4 .left)
+
+returns : tie.Need-returns
+returns c = step-too-long _ _ _ (c .if1 .taken)
+
+returns-2 : tie.Need-returns-2
+returns-2 c = step-past _ _ _ (c .before .if1 .left) (c .if2 .taken)
+
+returns-3 : tie.Need-returns-3
+returns-3 c = step-finished _ _ _ (c .before .before .if1 .left) _ refl (c .before .if2 .left) (c .if3 .taken)
+
+is-start-requires : tie.Need-is-start-requires
+is-start-requires c κs = search needs
+
+returns-4 : tie.Need-returns-4
+returns-4 c =
+    step-not-a-start _ _ _ (search needs) (search needs) (sym (c .before .is-start .ensures) ∙ not-true _ (c .if4 .taken))
+
+high-run-requires : tie.Need-high-run-requires
+high-run-requires c κs = search needs
+
+add-last : tie.Need-add-last
+add-last c =
+    let a = c .before .before .before .before .before .before .before .before .args in
+    omega (arith, c .high-run .ensures, within (a .block .now) (a .self .place .0) (search needs))
+
+returns-5 : tie.Need-returns-5
+returns-5 c =
+    step-tail _ _ _ (search needs) (search needs) (starts (c .before .before)) _ _ (c .before .high-run .ensures) refl (rw (c .before .high-run .ensures) at (c .if5 .taken))
+
+add-count : tie.Need-add-count
+add-count c = search needs
+
+enum-told : tie.Need-enum-told
+enum-told c = search needs
+
+unsigned-group-requires : tie.Need-unsigned-group-requires
+unsigned-group-requires c κs = search needs
+
+enum-told-2 : tie.Need-enum-told-2
+enum-told-2 c = search needs
+
+signed-group-requires : tie.Need-signed-group-requires
+signed-group-requires c κs = search needs
+
+returns-6 : tie.Need-returns-6
+returns-6 c =
+    rw (c .before .enum-told .given .1)
+    (step-group _ _ _ (search needs) (search needs) (starts (c .before .before .before .before .before))
+    (rw (c .before .before .before .before .high-run .ensures) at (c .before .before .before .if5 .left)) (c .unsigned-group .ensures))
+
+returns-7 : tie.Need-returns-7
+returns-7 c =
+    rw (c .before .enum-told2 .given .1)
+    (step-group _ _ _ (search needs) (search needs) (starts (c .before .before .before .before .before))
+    (rw (c .before .before .before .before .high-run .ensures) at (c .before .before .before .if5 .left)) (c .signed-group .ensures))
+
+pub step-spec : {M : Type 1} → statement M
+step-spec =
+    tie.close
+    (tie.spec
+    returns
+    returns-2
+    returns-3
+    is-start-requires
+    returns-4
+    high-run-requires
+    add-last
+    returns-5
+    add-count
+    enum-told
+    unsigned-group-requires
+    enum-told-2
+    signed-group-requires
+    returns-6
+    returns-7)

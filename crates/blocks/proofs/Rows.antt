@@ -1,0 +1,108 @@
+-- The rows of a step and of a set-down, in their order: what is answered when.
+use Prim.Native.Nat.{ℕ, _+_, _-_, _≤_, _<_}
+use mathlib.Core.Path.{_≡_, ap, sym, _∙_}
+use mathlib.Core.List.{List}
+use mathlib.Core.Bool.{true, false}
+use native.Mathlib.Omega.{arith}
+use borrow.Author.Tests.{lt-ltb, le-ltb, le-leb, lt-leb, eq-eqb, ne-eqb}
+use lib.ListN.{length, take, drop, length-drop}
+use Rattle.words.specs.Answer.{gives}
+use Rattle.words.specs.declared.Count.{Count}
+use Rattle.words.specs.declared.Refusal.the-variants as Why
+use Rattle.groups.specs.Group.{run}
+use Rattle.groups.proofs.Run.{run-within}
+use Rattle.blocks.specs.Block.{block-limit, isStart, finished, saysBy, stepping, settingDown}
+use Rattle.blocks.specs.Inner.{SaysBy}
+use Rattle.blocks.specs.Promise.{Steps, SetsDown}
+use Rattle.blocks.specs.declared.Cursor.{Cursor}
+use Rattle.blocks.specs.declared.Rule.{Rule}
+use Rattle.blocks.specs.declared.Step.{Step}
+use Rattle.blocks.specs.declared.Step.the-variants as S
+use Rattle.blocks.specs.declared.SetDown.the-variants as D
+
+module _ (rule : Rule) (s : List ℕ) (p : ℕ) where
+  pub step-too-long : block-limit < length s → Steps rule s p (S.Refused Why.TooLong)
+  unfolding stepping
+  step-too-long h = record { is = rw (lt-ltb block-limit (length s) h) }
+
+  module _ (fits : length s ≤ block-limit) where
+    pub step-past : length s < p → Steps rule s p (S.Refused Why.Place)
+    unfolding stepping
+    step-past h = record { is = rw (le-ltb block-limit (length s) fits, lt-ltb (length s) p h) }
+
+    pub step-finished : (c : Cursor) → c .place .0 ≡ p → p ≤ length s → length s ≤ p → Steps rule s p (S.Finished c)
+    unfolding stepping
+    step-finished c e h l = record { is = rw (le-ltb block-limit (length s) fits, le-ltb (length s) p h, le-leb (length s) p l) (ap finished e) }
+
+    module _ (here : p < length s) where
+      pub step-not-a-start : isStart s p ≡ false → Steps rule s p (S.Refused Why.NotAStart)
+      unfolding stepping
+      step-not-a-start e =
+          record { is = rw (le-ltb block-limit (length s) fits, le-ltb (length s) p (omega arith), lt-leb (length s) p here, e) }
+
+      module _ (starts : isStart s p ≡ true) where
+        pub step-tail : (n : Count) (c : Cursor) → n .0 ≡ run (drop p s) → c .place .0 ≡ p → length s ≤ p + run (drop p s) → Steps rule s p (S.Tail n c)
+        unfolding stepping
+        step-tail n c e f h =
+            let all : run (drop p s) ≡ length (drop p s) = omega (arith, run-within (drop p s), length-drop p s) in
+            record {
+              is =
+                  rw (
+                    le-ltb block-limit (length s) fits,
+                    le-ltb (length s) p (omega arith),
+                    lt-leb (length s) p here,
+                    starts,
+                    eq-eqb (run (drop p s)) (length (drop p s)) all,
+                    e,
+                    f,
+                  );
+            }
+
+        pub group-says : p + run (drop p s) < length s → stepping rule s p ≡ saysBy rule (take (run (drop p s) + 1) (drop p s)) p
+        unfolding stepping
+        group-says h =
+            let ne : run (drop p s) ≡ length (drop p s) → ⊥ = λ e. omega (arith, length-drop p s) in
+            rw (
+              le-ltb block-limit (length s) fits,
+              le-ltb (length s) p (omega arith),
+              lt-leb (length s) p here,
+              starts,
+              ne-eqb (run (drop p s)) (length (drop p s)) ne,
+            )
+
+        pub step-group : {r : Step} → p + run (drop p s) < length s → SaysBy rule s p r → Steps rule s p r
+        step-group h q = record { is = q .is ∙ sym (group-says h) }
+
+module _ (s : List ℕ) (p : ℕ) where
+  pub set-too-long : block-limit < length s → SetsDown s p (D.Refused Why.TooLong)
+  unfolding settingDown
+  set-too-long h = record { is = rw (lt-ltb block-limit (length s) h) }
+
+  module _ (fits : length s ≤ block-limit) where
+    pub set-past : length s < p → SetsDown s p (D.Refused Why.Place)
+    unfolding settingDown
+    set-past h = record { is = rw (le-ltb block-limit (length s) fits, lt-ltb (length s) p h) }
+
+    module _ (here : p ≤ length s) where
+      pub set-front : (c : Cursor) → c .place .0 ≡ p → p < 1 → SetsDown s p (D.At c)
+      unfolding settingDown
+      set-front c e h =
+          let z : p ≡ 0 = omega arith in
+          record { is = rw (le-ltb block-limit (length s) fits, le-ltb (length s) p here, eq-eqb p 0 z) (ap gives (e ∙ z)) }
+
+      module _ (some : 1 ≤ p) where
+        pub set-found : (c : Cursor) → c .place .0 ≡ p + run (drop (p - 1) s) → p - 1 + run (drop (p - 1) s) < length s → SetsDown s p (D.At c)
+        unfolding settingDown
+        set-found c e h =
+            record {
+              is =
+                  rw (le-ltb block-limit (length s) fits, le-ltb (length s) p here, ne-eqb p 0 (λ z. omega arith), lt-ltb _ (length s) h) (ap gives e);
+            }
+
+        pub set-none : length s ≤ p - 1 + run (drop (p - 1) s) → SetsDown s p (D.Refused Why.NoStart)
+        unfolding settingDown
+        set-none h =
+            record {
+              is =
+                  rw (le-ltb block-limit (length s) fits, le-ltb (length s) p here, ne-eqb p 0 (λ z. omega arith), le-ltb _ (length s) h);
+            }

@@ -1,0 +1,52 @@
+-- `blocks::high_run` keeps what it promises inside the crate: the loop holds `Passing`.
+use Prim.Native.Nat.{_-_}
+use lib.ListN.{length}
+use borrow.Author.Needs.{needs}
+use Rattle.blocks.proofs.Runs.{Passing, none-passed, one-passed, low-found, end-found}
+use Rattle.blocks.proofs.high_run.Statement.{statement}
+use Rattle.blocks.proofs.high_run.Tie as tie
+
+abbrev Inv-loop : tie.InvT-loop
+Inv-loop block at place₀ high₀ place high = Passing block at place high
+
+abbrev μ-loop : tie.MeasureT-loop
+μ-loop block at place₀ high₀ place high = length block - place
+
+loop-holds : tie.Need-loop-holds Inv-loop μ-loop
+loop-holds c = none-passed _ _ (search needs)
+
+shared-slice-read-b : tie.Need-shared-slice-read-b Inv-loop μ-loop
+shared-slice-read-b c = search needs
+
+returns : tie.Need-returns Inv-loop μ-loop
+returns c = low-found _ _ (c .before .before .before .loop .inv) (c .if1 .taken)
+
+add-high : tie.Need-add-high Inv-loop μ-loop
+add-high c = search needs
+
+add-place : tie.Need-add-place Inv-loop μ-loop
+add-place c = search needs
+
+loop-less : tie.Need-loop-less Inv-loop μ-loop
+loop-less c = search needs
+
+loop-again : tie.Need-loop-again Inv-loop μ-loop
+loop-again c = one-passed _ _ (c .before .before .before .loop .inv) (search needs) (c .if1 .left)
+
+returns-2 : tie.Need-returns-2 Inv-loop μ-loop
+returns-2 c = end-found _ _ (c .before .loop .inv) (c .loop-test .left)
+
+pub high-run-spec : {M : Type 1} → statement M
+high-run-spec =
+    tie.close
+    (tie.spec
+    Inv-loop
+    μ-loop
+    loop-holds
+    shared-slice-read-b
+    returns
+    add-high
+    add-place
+    loop-less
+    loop-again
+    returns-2)

@@ -1,0 +1,64 @@
+-- Document 01, "Blocks, groups and tails".
+--
+--   block-limit       the most bytes of a block
+--   isStart s p       p is 0, or stands just past a byte below 128
+--   Val               a number by the rule that it was read by
+--   readBy rule g     the bytes of a group, read by the rule
+--   Stepped           what a step says, in document 01's numbers and values; its last number is the place of the cursor handed back
+--   stepping rule s p the rows of a step in their order
+--   settingDown s p   the least start at or after p, or 8
+use Prim.Native.Nat.{ℕ, _+_, _-_}
+use mathlib.Core.List.{List}
+use mathlib.Core.Bool.{Bool, not}
+use lib.Dec.{leb, ltb, eqb}
+use lib.IntN.{ℤ}
+use lib.ListN.{length, getD, take, drop}
+use Rattle.words.specs.Answer.{pick, Answer, gives, refused}
+use Rattle.groups.specs.Group.{run}
+use Rattle.groups.specs.Width.{reading}
+use Rattle.uleb128.specs.Unsigned.{u64}
+use Rattle.sleb128.specs.Signed.{i64, either}
+use Rattle.blocks.specs.declared.Rule.{Rule}
+use Rattle.blocks.specs.declared.Rule.the-variants.{Unsigned, Signed}
+
+abbrev pub block-limit : ℕ
+block-limit = 4096
+
+unfoldable pub isStart : List ℕ → ℕ → Bool
+isStart s p = either (eqb p 0) (ltb (getD s (p - 1) 0) 128)
+
+pub data Val : Type 0 where
+  unsigned : ℕ → Val
+  signed : ℤ → Val
+
+pub data Stepped : Type 0 where
+  number : Val → ℕ → ℕ → Stepped
+  gap : ℕ → ℕ → ℕ → Stepped
+  tail : ℕ → ℕ → Stepped
+  finished : ℕ → Stepped
+  refuses : ℕ → Stepped
+
+-- a number, or else a gap over the whole group
+abbrev pub says : {A : Type 0} → (A → Val) → Answer (A × ℕ) → ℕ → ℕ → Stepped
+says f (gives v) n p = number (f (v .0)) (v .1) (p + v .1)
+says f (refused k) n p = gap k n (p + n)
+
+abbrev pub saysBy : Rule → List ℕ → ℕ → Stepped
+saysBy Unsigned g p = says unsigned (reading u64 g) (length g) p
+saysBy Signed g p = says signed (reading i64 g) (length g) p
+
+unfoldable pub stepping : Rule → List ℕ → ℕ → Stepped
+stepping rule s p =
+    pick (ltb block-limit (length s)) (refuses 7)
+    (pick (ltb (length s) p) (refuses 4)
+    (pick (leb (length s) p) (finished p)
+    (pick (not (isStart s p)) (refuses 6)
+    (pick (eqb (run (drop p s)) (length (drop p s))) (tail (run (drop p s)) p)
+    (saysBy rule (take (run (drop p s) + 1) (drop p s)) p)))))
+
+unfoldable pub settingDown : List ℕ → ℕ → Answer ℕ
+settingDown s p =
+    pick (ltb block-limit (length s)) (refused 7)
+    (pick (ltb (length s) p) (refused 4)
+    (pick (eqb p 0) (gives 0)
+    (pick (ltb (p - 1 + run (drop (p - 1) s)) (length s)) (gives (p + run (drop (p - 1) s))) (refused 8))))

@@ -1,0 +1,4 @@
+pub mod Block
+pub mod Cut
+pub mod Promise
+pub mod Inner

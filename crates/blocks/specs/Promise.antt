@@ -1,0 +1,39 @@
+-- What the functions of this crate promise.
+--
+--   meaning, meaningSet   what the answers of a step and of a set-down say
+--   Steps                 a step of a cursor at the place p of the block s, by the rule
+--   SetsDown              set-down at the place p of the block s
+use Prim.Native.Nat.{ℕ}
+use mathlib.Core.List.{List}
+use mathlib.Core.Path.{_≡_}
+use Rattle.words.specs.Answer.{Answer, gives, refused}
+use Rattle.words.specs.Refusal.{numberOf}
+use Rattle.blocks.specs.Block.{Val, unsigned, signed, Stepped, number, gap, tail, finished, refuses, stepping, settingDown}
+use Rattle.blocks.specs.declared.Rule.{Rule}
+use Rattle.blocks.specs.declared.Value.{Value}
+use Rattle.blocks.specs.declared.Value.the-variants as N
+use Rattle.blocks.specs.declared.Step.{Step}
+use Rattle.blocks.specs.declared.Step.the-variants as S
+use Rattle.blocks.specs.declared.SetDown.{SetDown}
+use Rattle.blocks.specs.declared.SetDown.the-variants as D
+
+abbrev pub valueOf : Value → Val
+valueOf (N.Unsigned v) = unsigned v
+valueOf (N.Signed v) = signed v
+
+abbrev pub meaning : Step → Stepped
+meaning (S.Number v n c) = number (valueOf v) (n .0) (c .place .0)
+meaning (S.Gap why n c) = gap (numberOf why) (n .0) (c .place .0)
+meaning (S.Tail n c) = tail (n .0) (c .place .0)
+meaning (S.Finished c) = finished (c .place .0)
+meaning (S.Refused why) = refuses (numberOf why)
+
+abbrev pub meaningSet : SetDown → Answer ℕ
+meaningSet (D.At c) = gives (c .place .0)
+meaningSet (D.Refused why) = refused (numberOf why)
+
+pub record Steps (rule : Rule) (s : List ℕ) (p : ℕ) (r : Step) : Type 0 where
+  pub is : meaning r ≡ stepping rule s p
+
+pub record SetsDown (s : List ℕ) (p : ℕ) (r : SetDown) : Type 0 where
+  pub is : meaningSet r ≡ settingDown s p

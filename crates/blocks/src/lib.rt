@@ -1,0 +1,173 @@
+// Blocks: a run of groups and a tail. A cursor steps through it, a group at a time; set-down finds where to begin.
+use sleb128::ReadI64;
+use sleb128::read_i64;
+use uleb128::ReadU64;
+use uleb128::read_u64;
+use words::Count;
+use words::Place;
+use words::Refusal;
+ghost use mathlib.Core.Path.{_≡_};
+ghost use Prim.Native.Nat.{_+_, _^_, _<_, _≤_};
+ghost use lib.ListN.{length, drop};
+ghost use Rattle.groups.specs.Group.{run};
+ghost use Rattle.blocks.specs.Block.{isStart};
+ghost use Rattle.blocks.specs.Inner.{GroupAt, SaysBy};
+ghost use Rattle.blocks.specs.Promise.{Steps, SetsDown};
+
+// The most bytes of a block.
+const BLOCK_LIMIT: usize = 4096;
+
+// The rule by which a group's bytes are read.
+pub enum Rule {
+    Unsigned,
+    Signed,
+}
+
+pub enum Value {
+    Unsigned(u64),
+    Signed(i64),
+}
+
+// A reader's place in a block.
+pub struct Cursor {
+    pub place: Place,
+}
+
+// What a step says. Each but a refusal hands the cursor back: moved past one group by Number and Gap, as it was by Tail
+// and Finished.
+pub enum Step {
+    Number(Value, Count, Cursor),
+    Gap(Refusal, Count, Cursor),
+    Tail(Count, Cursor),
+    Finished(Cursor),
+    Refused(Refusal),
+}
+
+pub enum SetDown {
+    At(Cursor),
+    Refused(Refusal),
+}
+
+// Whether a group, a tail or the end can begin at the place.
+fn is_start(block: &[u8], at: usize) -> bool
+    requires { ⌜ at ≤ length (now block) ⌝ }
+    ensures { λ r. ⌜ r ≡ isStart (now (block .entry)) at ⌝ }
+{
+    if at < 1 {
+        return true;
+    }
+    let before = at - 1;
+    let b = block[before];
+    b < 128
+}
+
+// How many bytes of 128 or more stand at the place.
+fn high_run(block: &[u8], at: usize) -> usize
+    requires { ⌜ at ≤ length (now block) ⌝ }
+    ensures { λ r. ⌜ r ≡ run (drop at (now (block .entry))) ⌝ }
+{
+    let mut place = at;
+    let mut high = 0;
+    while place < block.len() {
+        let b = block[place];
+        if b < 128 {
+            return high;
+        }
+        high += 1;
+        place += 1;
+    }
+    high
+}
+
+// The cursor past a group of count bytes.
+fn past(at: usize, count: usize) -> Cursor
+    requires { ⌜ at + count < 2 ^ 64 ⌝ }
+    ensures { λ r. ⌜ r .place .0 ≡ at + count ⌝ }
+{
+    let next = at + count;
+    Cursor { place: Place(next) }
+}
+
+// What the group of count bytes at the place says, read unsigned: a number, or else a gap over the whole group.
+fn unsigned_group(block: &[u8], at: usize, count: usize) -> Step
+    requires { ⌜ GroupAt count (now block) at ⌝ }
+    ensures { λ r. ⌜ SaysBy Rule.Unsigned (now (block .entry)) at r ⌝ }
+{
+    match read_u64(block, Place(at)) {
+        ReadU64::Number(v, n) => {
+            let taken = n.0;
+            Step::Number(Value::Unsigned(v), n, past(at, taken))
+        }
+        ReadU64::Refused(refusal) => Step::Gap(refusal, Count(count), past(at, count)),
+    }
+}
+
+// The same, read signed.
+fn signed_group(block: &[u8], at: usize, count: usize) -> Step
+    requires { ⌜ GroupAt count (now block) at ⌝ }
+    ensures { λ r. ⌜ SaysBy Rule.Signed (now (block .entry)) at r ⌝ }
+{
+    match read_i64(block, Place(at)) {
+        ReadI64::Number(v, n) => {
+            let taken = n.0;
+            Step::Number(Value::Signed(v), n, past(at, taken))
+        }
+        ReadI64::Refused(refusal) => Step::Gap(refusal, Count(count), past(at, count)),
+    }
+}
+
+impl Cursor {
+    // One step: 7, 4 or 6; the end; a tail; or what the group at the place says by the rule.
+    pub fn step(self, block: &[u8], rule: Rule) -> Step
+        ensures { λ r. ⌜ Steps rule (now (block .entry)) (self .place .0) r ⌝ }
+    {
+        let place = self.place;
+        let at = place.0;
+        if BLOCK_LIMIT < block.len() {
+            return Step::Refused(Refusal::TooLong);
+        }
+        if block.len() < at {
+            return Step::Refused(Refusal::Place);
+        }
+        if block.len() <= at {
+            return Step::Finished(self);
+        }
+        let starts = is_start(block, at);
+        if !starts {
+            return Step::Refused(Refusal::NotAStart);
+        }
+        let high = high_run(block, at);
+        let last = at + high;
+        if block.len() <= last {
+            return Step::Tail(Count(high), self);
+        }
+        let count = high + 1;
+        match rule {
+            Rule::Unsigned => unsigned_group(block, at, count),
+            Rule::Signed => signed_group(block, at, count),
+        }
+    }
+}
+
+// The least start at or after the place: 7, 4, or 8 if there is none.
+pub fn set_down(block: &[u8], place: Place) -> SetDown
+    ensures { λ r. ⌜ SetsDown (now (block .entry)) (place .0) r ⌝ }
+{
+    let at = place.0;
+    if BLOCK_LIMIT < block.len() {
+        return SetDown::Refused(Refusal::TooLong);
+    }
+    if block.len() < at {
+        return SetDown::Refused(Refusal::Place);
+    }
+    if at < 1 {
+        return SetDown::At(Cursor { place });
+    }
+    let before = at - 1;
+    let high = high_run(block, before);
+    let last = before + high;
+    if last < block.len() {
+        return SetDown::At(past(at, high));
+    }
+    SetDown::Refused(Refusal::NoStart)
+}
