@@ -1,26 +1,29 @@
-//! The cases: first those written down by hand, then each limit from both sides, then random ones.
+//! The cases: first those written down by hand, then each limit from both sides, then random ones;
+//! after those for numbers, here, those for blocks and lists from block_cases.rs.
 //!
 //!   committed   the cases that the repository holds
-//!   large       these, all pairs of bytes, long frames, and a million random cases more
+//!   large       these, all pairs of bytes, long frames and blocks, and 1,200,000 random cases more
 //!
 //! Nothing here says what an answer should be. The same bytes come out on every machine.
 
-use crate::answers::{form, length, power, Rule, GROWTH};
+use crate::block_cases;
 use crate::frames::{put, MOST_BYTES};
 use crate::known::put_known;
+use crate::numbers::{form, length, power, Rule, GROWTH};
+use crate::random::Random;
 use Rule::*;
 
 const READERS: [(u8, Rule); 4] = [(1, U64), (2, U64), (3, U32), (4, I64)];
 const WRITERS: [(u8, Rule); 4] = [(5, U64), (6, U64), (7, U32), (8, I64)];
 const LENGTHS: [(u8, Rule); 3] = [(9, U64), (10, U32), (11, I64)];
 
-/// The second bytes of the committed pairs: around each bit that a rule looks at.
-const SECONDS: [u8; 12] = [
+/// Bytes around each bit that a rule looks at: the second bytes of the committed pairs.
+pub const SPREAD: [u8; 12] = [
     0x00, 0x01, 0x3f, 0x40, 0x7e, 0x7f, 0x80, 0x81, 0xbf, 0xc0, 0xfe, 0xff,
 ];
 
 /// The largest place there is.
-const FAR: u64 = u64::MAX;
+pub const FAR: u64 = u64::MAX;
 
 /// The cases that the repository holds. A frame cut short ends a run, so there is one, at the end:
 /// its header says three bytes and two follow.
@@ -43,6 +46,7 @@ pub fn large() -> Vec<u8> {
         long_frame(&mut input, count);
     }
     random_cases(&mut input, 2, 1_000_000);
+    block_cases::more(&mut input);
     put(&mut input, 1, 0, 0, &vec![1; MOST_BYTES as usize + 1]);
     put(&mut input, 1, 0, 0, &[1]);
     input
@@ -52,7 +56,7 @@ pub fn large() -> Vec<u8> {
 fn whole(input: &mut Vec<u8>) {
     put_known(input);
     single_bytes(input);
-    pairs(input, &SECONDS);
+    pairs(input, &SPREAD);
     runs(input);
     growth(input);
     starts(input);
@@ -61,11 +65,12 @@ fn whole(input: &mut Vec<u8>) {
     // One byte more than a block may have: the number desk knows no such limit.
     long_frame(input, 4_097);
     random_cases(input, 1, 5_000);
+    block_cases::whole(input);
 }
 
 // ---- reading
 
-fn all_bytes() -> Vec<u8> {
+pub fn all_bytes() -> Vec<u8> {
     (0..=255).collect()
 }
 
@@ -137,7 +142,7 @@ fn starts(input: &mut Vec<u8>) {
 // ---- writing
 
 /// The numbers next to each value at which a form grows, on both sides, and the ends of the width.
-fn numbers(rule: Rule) -> Vec<i128> {
+pub fn numbers(rule: Rule) -> Vec<i128> {
     let turns: Vec<i128> = match rule {
         U64 | U32 => GROWTH.to_vec(),
         I64 => (1..=9)
@@ -158,7 +163,7 @@ fn numbers(rule: Rule) -> Vec<i128> {
 }
 
 /// The lowest and the highest number of each length.
-fn each_length(rule: Rule) -> Vec<i128> {
+pub fn each_length(rule: Rule) -> Vec<i128> {
     let all = numbers(rule);
     let mut some = Vec::new();
     for k in 1..=rule.most() {
@@ -170,7 +175,7 @@ fn each_length(rule: Rule) -> Vec<i128> {
 }
 
 /// Bytes that are not 0 and differ, so that a store beside the place shows.
-fn filler(count: usize) -> Vec<u8> {
+pub fn filler(count: usize) -> Vec<u8> {
     (0..count).map(|i| (53 + 29 * i % 199) as u8).collect()
 }
 
@@ -260,61 +265,7 @@ fn long_frame(input: &mut Vec<u8>, count: usize) {
 
 // ---- random cases
 
-/// splitmix64: the same numbers from the same seed on every machine.
-struct Random(u64);
-
 impl Random {
-    fn next(&mut self) -> u64 {
-        self.0 = self.0.wrapping_add(0x9e3779b97f4a7c15);
-        let mut x = self.0;
-        x = (x ^ (x >> 30)).wrapping_mul(0xbf58476d1ce4e5b9);
-        x = (x ^ (x >> 27)).wrapping_mul(0x94d049bb133111eb);
-        x ^ (x >> 31)
-    }
-
-    fn below(&mut self, limit: usize) -> usize {
-        (self.next() % limit as u64) as usize
-    }
-
-    fn byte(&mut self) -> u8 {
-        self.below(256) as u8
-    }
-
-    /// Bytes of which one in `low` is below 128 by choice, so that long runs of others come up too.
-    fn bytes(&mut self, count: usize) -> Vec<u8> {
-        let low = [2, 4, 16][self.below(3)];
-        let mut bytes = Vec::new();
-        for _ in 0..count {
-            let seven = self.byte() % 128;
-            bytes.push(if self.below(low) == 0 {
-                seven
-            } else {
-                seven + 128
-            });
-        }
-        bytes
-    }
-
-    /// A number of the width; each length is about as likely as another, and so are both sides of
-    /// the values at which it grows.
-    fn number(&mut self, rule: Rule) -> i128 {
-        let k = 1 + self.below(rule.most());
-        let limit = match rule {
-            U64 | U32 => power(7 * k).min(rule.largest() + 1),
-            I64 => power(7 * k - 1).min(rule.largest() + 1),
-        };
-        let v = match self.below(4) {
-            0 => limit - 2 + self.below(4) as i128,
-            _ => self.next() as i128 % limit,
-        };
-        let v = if rule == I64 && self.below(2) == 0 {
-            -v
-        } else {
-            v
-        };
-        v.clamp(rule.smallest(), rule.largest())
-    }
-
     /// One time in twenty 64 bits where 32 are asked for, so that some numbers are too large.
     fn at_times_wider(&mut self, rule: Rule) -> Rule {
         let wider = self.below(20) == 0;
@@ -323,45 +274,6 @@ impl Random {
         } else {
             rule
         }
-    }
-
-    /// A place past the end of every buffer here, up to the largest there is.
-    fn far(&mut self) -> u64 {
-        match self.below(3) {
-            0 => FAR - self.below(20) as u64,
-            1 => (1 << 32) + self.below(20) as u64,
-            _ => self.next() | 1 << 63,
-        }
-    }
-
-    /// A form as it is, or with a bit turned over, a byte removed, one put in, one replaced, or one
-    /// added that may be one too many.
-    fn damaged(&mut self, mut bytes: Vec<u8>) -> Vec<u8> {
-        let at = self.below(bytes.len());
-        match self.below(6) {
-            0 => bytes[at] ^= 1 << self.below(8),
-            1 => {
-                bytes.remove(at);
-            }
-            2 => {
-                let byte = self.byte();
-                bytes.insert(at, byte);
-            }
-            3 => bytes[at] = self.byte(),
-            4 => {
-                *bytes.last_mut().unwrap() |= 128;
-                bytes.push([0, 127][self.below(2)]);
-            }
-            _ => {}
-        }
-        bytes
-    }
-
-    /// Bytes up to the greatest length, the last of them in and out of what the width allows.
-    fn longest(&mut self, rule: Rule) -> Vec<u8> {
-        let mut bytes: Vec<u8> = (1..rule.most()).map(|_| self.byte() | 128).collect();
-        bytes.push([0, 1, 2, 15, 16, 63, 64, 126, 127, 128][self.below(10)]);
-        bytes
     }
 
     fn read_case(&mut self, input: &mut Vec<u8>, op: u8, rule: Rule) {

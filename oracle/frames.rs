@@ -4,6 +4,7 @@
 //!   Item      what the input has next: a frame, or one cut short
 //!   frames    the items of an input
 //!   put       the bytes of a frame, added to an input
+//!   put_list  the same for list writing: the numbers, then the buffer
 //!   list      a frame as a line to read
 
 /// The most bytes that a frame may have behind its header.
@@ -58,6 +59,13 @@ pub fn put(input: &mut Vec<u8>, op: u8, a: u64, b: u64, bytes: &[u8]) {
     input.extend(b.to_le_bytes());
     input.extend((bytes.len() as u32).to_le_bytes());
     input.extend(bytes);
+}
+
+/// Adds a frame that asks to write a list at a place: 8 bytes to a number, the low byte first.
+pub fn put_list(input: &mut Vec<u8>, place: u64, list: &[u64], buffer: &[u8]) {
+    let mut bytes: Vec<u8> = list.iter().flat_map(|v| v.to_le_bytes()).collect();
+    bytes.extend(buffer);
+    put(input, 16, place, list.len() as u64, &bytes);
 }
 
 /// Bytes in lower-case hex, `-` if there are none.

@@ -1,19 +1,32 @@
 //! Answers written down by hand from document 01 and from the examples of DWARF 5, so that no
 //! expected output rests on this program's word alone.
 //!
-//!   READ, WRITE, LENGTH   the cases, each with its answer line
+//!   READ, WRITE, LENGTH   the cases for numbers, each with its answer line
+//!   BLOCK, LIST, TURN     those for blocks, lists and turns
+//!   put_limits            those with a block or list as long as it may be, or longer
 //!   put_known             all of them as frames
+//!   LISTING               inputs for the listing, each with its text
 //!   check                 whether this program gives every one of these answers
 
-use crate::answers::{answer, GROWTH};
-use crate::frames::{frames, list, put};
+use crate::answers::answer;
+use crate::frames::{frames, list, put, put_list};
+use crate::listing;
+use crate::numbers::GROWTH;
 
-/// (ops, place, bytes in hex, answer)
+/// (ops, place, bytes in hex, answer); of strict reading the size of the slice, and no place
 type Read = (&'static [u8], u64, &'static str, &'static str);
 /// (ops, number, place, buffer in hex, answer)
 type Write = (&'static [u8], i128, u64, &'static str, &'static str);
 /// (ops, number, answer)
 type Length = (&'static [u8], i128, &'static str);
+/// (place, numbers, buffer in hex, answer)
+type List = (u64, &'static [u64], &'static str, &'static str);
+
+/// The 17 bytes of document 01's listing, and the same with the two bytes at 3 mended.
+const DOCUMENT: &str = "00 80 01 80 00 ff ff ff ff ff ff ff ff ff 02 05 83";
+const MENDED: &str = "00 80 01 07 ff ff ff ff ff ff ff ff ff 02 05 83";
+
+const TEN_80: &str = "80 80 80 80 80 80 80 80 80 80";
 
 #[rustfmt::skip]
 const READ: &[Read] = &[
@@ -150,6 +163,164 @@ const LENGTH: &[Length] = &[
     (&[0, 18, 255], 0, "unknown"),
 ];
 
+#[rustfmt::skip]
+const BLOCK: &[Read] = &[
+    // The block of the listing, stepped through, and where no step may begin.
+    (&[12, 13], 0, DOCUMENT, "number 0 1 1"),
+    (&[12, 13], 1, DOCUMENT, "number 128 2 3"),
+    (&[12, 13], 3, DOCUMENT, "gap 3 2 5"),
+    (&[12, 13], 5, DOCUMENT, "gap 2 10 15"),
+    (&[12, 13], 15, DOCUMENT, "number 5 1 16"),
+    (&[12, 13], 16, DOCUMENT, "tail 1 16"),
+    (&[12, 13], 17, DOCUMENT, "finished 17"),
+    (&[12, 13], 2, DOCUMENT, "refused 6"),
+    (&[12, 13], 14, DOCUMENT, "refused 6"),
+    (&[12, 13], 18, DOCUMENT, "refused 4"),
+    (&[12, 13], 18446744073709551615, DOCUMENT, "refused 4"),
+    // "If the two bytes at 3 become the one byte 07, the 5 is found at place 14 and the tail at 15."
+    (&[12, 13], 0, MENDED, "number 0 1 1"),
+    (&[12, 13], 1, MENDED, "number 128 2 3"),
+    (&[12, 13], 3, MENDED, "number 7 1 4"),
+    (&[12, 13], 4, MENDED, "gap 2 10 14"),
+    (&[12, 13], 14, MENDED, "number 5 1 15"),
+    (&[12, 13], 15, MENDED, "tail 1 15"),
+    (&[12, 13], 16, MENDED, "finished 16"),
+    // Set-down there. The length is no start: the byte before it is 83.
+    (&[14], 0, DOCUMENT, "start 0"),
+    (&[14], 1, DOCUMENT, "start 1"),
+    (&[14], 2, DOCUMENT, "start 3"),
+    (&[14], 6, DOCUMENT, "start 15"),
+    (&[14], 16, DOCUMENT, "start 16"),
+    (&[14], 17, DOCUMENT, "refused 8"),
+    (&[14], 18, DOCUMENT, "refused 4"),
+    (&[14], 18446744073709551615, DOCUMENT, "refused 4"),
+    // Strict reading there: "the first fault by place".
+    (&[15], 0, DOCUMENT, "refused 3"),
+    (&[15], 2, DOCUMENT, "refused 3 7777777777777777777 7777777777777777777"),
+    (&[15], 1, MENDED, "refused 2 7777777777777777777"),
+    // An empty block.
+    (&[12, 13], 0, "", "finished 0"),
+    (&[12, 13, 14], 1, "", "refused 4"),
+    (&[14], 0, "", "start 0"),
+    (&[15], 0, "", "count 0"),
+    (&[15], 1, "", "count 0 7777777777777777777"),
+    // A tail of ten bytes, alone and behind a group.
+    (&[12, 13], 0, TEN_80, "tail 10 0"),
+    (&[12, 13], 1, TEN_80, "refused 6"),
+    (&[12, 13], 10, TEN_80, "finished 10"),
+    (&[14], 0, TEN_80, "start 0"),
+    (&[14], 1, TEN_80, "refused 8"),
+    (&[14], 10, TEN_80, "refused 8"),
+    (&[14], 11, TEN_80, "refused 4"),
+    (&[15], 0, TEN_80, "refused 1"),
+    (&[15], 1, TEN_80, "refused 1 7777777777777777777"),
+    (&[12, 13], 1, "05 ff ff ff ff ff ff ff ff ff ff ff", "tail 11 1"),
+    (&[14], 1, "05 ff ff ff ff ff ff ff ff ff ff ff", "start 1"),
+    (&[14], 2, "05 ff ff ff ff ff ff ff ff ff ff ff", "refused 8"),
+    (&[15], 1, "05 ff ff ff ff ff ff ff ff ff ff ff", "refused 1 7777777777777777777"),
+    // "Skipping ten bytes after an overflow, and not through the group's end."
+    (&[12, 13], 0, "80 80 80 80 80 80 80 80 80 80 01 06", "gap 2 11 11"),
+    (&[12, 13], 0, "ff ff ff ff ff ff ff ff ff ff ff ff 7f 06", "gap 2 13 13"),
+    (&[12, 13], 10, "80 80 80 80 80 80 80 80 80 80 01 06", "refused 6"),
+    (&[12, 13], 11, "80 80 80 80 80 80 80 80 80 80 01 06", "number 6 1 12"),
+    (&[14], 1, "80 80 80 80 80 80 80 80 80 80 01 06", "start 11"),
+    (&[15], 1, "80 80 80 80 80 80 80 80 80 80 01 06", "refused 2 7777777777777777777"),
+    // "By the rule the caller names for that step."
+    (&[12], 0, "40", "number 64 1 1"),
+    (&[13], 0, "40", "number -64 1 1"),
+    (&[12], 0, "ff 00", "gap 3 2 2"),
+    (&[13], 0, "ff 00", "number 127 2 2"),
+    (&[12], 0, "ff 7f", "number 16383 2 2"),
+    (&[13], 0, "ff 7f", "gap 3 2 2"),
+    (&[12], 0, "80 80 80 80 80 80 80 80 80 01", "number 9223372036854775808 10 10"),
+    (&[13], 0, "80 80 80 80 80 80 80 80 80 01", "gap 2 10 10"),
+    (&[12], 0, "80 80 80 80 80 80 80 80 80 7f", "gap 2 10 10"),
+    (&[13], 0, "80 80 80 80 80 80 80 80 80 7f", "number -9223372036854775808 10 10"),
+    (&[12], 0, "ff ff ff ff ff ff ff ff ff 00", "gap 3 10 10"),
+    (&[13], 0, "ff ff ff ff ff ff ff ff ff 00", "number 9223372036854775807 10 10"),
+    (&[13], 0, "ff ff ff ff ff ff ff ff ff 7f", "gap 3 10 10"),
+    // A block that ends with a group: its length is a start.
+    (&[12, 13], 2, "80 01", "finished 2"),
+    (&[14], 1, "80 01", "start 2"),
+    (&[14], 2, "80 01", "start 2"),
+    (&[14], 3, "80 01", "refused 4"),
+    // Strict reading fills the front and leaves the rest; the first fault comes before 5.
+    (&[15], 3, "00 80 01", "count 2 0 128 7777777777777777777"),
+    (&[15], 2, "00 80 01", "count 2 0 128"),
+    (&[15], 1, "00 80 01", "refused 5 7777777777777777777"),
+    (&[15], 0, "00 80 01", "refused 5"),
+    (&[15], 1, "01 02 80", "refused 1 7777777777777777777"),
+    (&[15], 1, "01 02 80 00", "refused 3 7777777777777777777"),
+    (&[15], 3, "01 80 00 80", "refused 3 7777777777777777777 7777777777777777777 7777777777777777777"),
+    (&[15], 1, "ff ff ff ff ff ff ff ff ff 02 80 00", "refused 2 7777777777777777777"),
+    (&[15], 1, "80 00 ff ff ff ff ff ff ff ff ff 02", "refused 3 7777777777777777777"),
+    // What the list below wrote, read back.
+    (&[15], 5, "00 7f 80 01 b9 64 ff ff ff ff ff ff ff ff ff 01", "count 5 0 127 128 12857 18446744073709551615"),
+    // A slice that is not asked for.
+    (&[15], 8193, "05", "unknown"),
+    (&[15], 18446744073709551615, "", "unknown"),
+];
+
+#[rustfmt::skip]
+const LIST: &[List] = &[
+    (0, &[0, 127, 128, 12857, 18446744073709551615], "a5 5a 33 cc 96 69 0f f0 3c c3 a5 5a 33 cc 96 69", "count 16 007f8001b964ffffffffffffffffff01"),
+    (1, &[128, 5], "a5 5a 33 cc 96", "count 3 a580010596"),
+    (2, &[128, 5], "a5 5a 33 cc 96", "count 3 a55a800105"),
+    (3, &[128, 5], "a5 5a 33 cc 96", "refused 5 a55a33cc96"),
+    (18446744073709551615, &[128, 5], "a5 5a 33 cc 96", "refused 5 a55a33cc96"),
+    (0, &[5], "", "refused 5 -"),
+    // "No numbers: 0 bytes, if the place is at most the buffer length."
+    (0, &[], "", "count 0 -"),
+    (1, &[], "", "refused 5 -"),
+    (0, &[], "a5 5a", "count 0 a55a"),
+    (2, &[], "a5 5a", "count 0 a55a"),
+    (3, &[], "a5 5a", "refused 5 a55a"),
+    (18446744073709551615, &[], "a5 5a", "refused 5 a55a"),
+];
+
+#[rustfmt::skip]
+const TURN: &[Length] = &[
+    (&[17], 1, "tighten"),
+    (&[17], -1, "loosen"),
+    (&[17], 0, "hold"),
+    (&[17], 9223372036854775807, "tighten"),
+    (&[17], -9223372036854775808, "loosen"),
+];
+
+/// (name of the input, its bytes in hex, its text)
+const LISTING: &[(&str, &str, &str)] = &[
+    (
+        "document",
+        DOCUMENT,
+        "place what value
+0 number 0
+1 number 128
+3 not-shortest 2
+5 overflow 10
+15 number 5
+16 tail 1
+",
+    ),
+    (
+        "mended",
+        MENDED,
+        "place what value
+0 number 0
+1 number 128
+3 number 7
+4 overflow 10
+14 number 5
+15 tail 1
+",
+    ),
+    ("empty", "", "place what value\n"),
+    (
+        "tail",
+        "80 80 80 80 80 80 80 80 80 80 80 80",
+        "place what value\n0 tail 12\n",
+    ),
+];
+
 fn bytes_of(hex: &str) -> Vec<u8> {
     let byte = |word| u8::from_str_radix(word, 16).unwrap();
     hex.split_whitespace().map(byte).collect()
@@ -182,14 +353,72 @@ pub fn put_known(input: &mut Vec<u8>) -> Vec<String> {
         put(input, 9, *at as u64, 0, &[]);
         lines.push(format!("count {}", i + 2));
     }
+    for (ops, a, bytes, line) in BLOCK {
+        for op in *ops {
+            put(input, *op, *a, 0, &bytes_of(bytes));
+            lines.push(line.to_string());
+        }
+    }
+    for (place, numbers, buffer, line) in LIST {
+        put_list(input, *place, numbers, &bytes_of(buffer));
+        lines.push(line.to_string());
+    }
+    for (ops, v, line) in TURN {
+        for op in *ops {
+            put(input, *op, *v as u64, 0, &[]);
+            lines.push(line.to_string());
+        }
+    }
+    lines.extend(put_limits(input));
+    lines
+}
+
+/// Fives in blocks and lists: the most that there may be, into the largest slice that may be asked
+/// for too; and one byte or number more, refused before all else that is wrong.
+fn put_limits(input: &mut Vec<u8>) -> Vec<String> {
+    let mut lines = Vec::new();
+    let all = vec![5; 4096];
+    for (op, a, line) in [
+        (12, 4095, "number 5 1 4096"),
+        (13, 4096, "finished 4096"),
+        (14, 4096, "start 4096"),
+    ] {
+        put(input, op, a, 0, &all);
+        lines.push(line.to_string());
+    }
+    put(input, 15, 8192, 0, &all);
+    let left = " 7777777777777777777".repeat(4096);
+    lines.push("count 4096".to_string() + &" 5".repeat(4096) + &left);
+
+    // Place 4,096 is in the middle of a group, place 4,097 the end, place 4,098 past it.
+    let too_long = [&[5; 4095][..], &[0x80, 0x00]].concat();
+    for (op, places) in [
+        (12, &[4096, 4097, 4098][..]),
+        (13, &[4096, 4097, 4098]),
+        (14, &[0, 4098]),
+    ] {
+        for place in places {
+            put(input, op, *place, 0, &too_long);
+            lines.push("refused 7".to_string());
+        }
+    }
+    put(input, 15, 1, 0, &too_long);
+    lines.push("refused 7 7777777777777777777".to_string());
+
+    // A list may have more bytes than a block.
+    let list = [&[128][..], &[5; 4095]].concat();
+    put_list(input, 1, &list, &[0xa5; 4099]);
+    lines.push("count 4097 a58001".to_string() + &"05".repeat(4095) + "a5");
+    put_list(input, 2, &[5; 4097], &[0xa5; 6]);
+    lines.push("refused 7 a5a5a5a5a5a5".to_string());
     lines
 }
 
 /// Refuses to go on if an answer is not the one written down.
 pub fn check() -> Result<(), String> {
-    let mut input = Vec::new();
-    let lines = put_known(&mut input);
-    let items = frames(&input);
+    let mut known = Vec::new();
+    let lines = put_known(&mut known);
+    let items = frames(&known);
     if items.len() != lines.len() {
         return Err(format!(
             "{} known cases, {} frames",
@@ -205,6 +434,15 @@ pub fn check() -> Result<(), String> {
                 list(item)
             ));
         }
+    }
+    for (name, bytes, text) in LISTING {
+        let bytes = bytes_of(bytes);
+        if listing::input(name).as_ref() != Some(&bytes) || listing::listing(&bytes) != *text {
+            return Err(format!("the listing of {name} is not the document's"));
+        }
+    }
+    if listing::listing(&[5; 4097]) != "refused 7\n" {
+        return Err("a listing of 4,097 bytes is not refused".to_string());
     }
     Ok(())
 }

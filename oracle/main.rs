@@ -1,21 +1,33 @@
 //! oracle: the second, independent program that `answers` is compared with.
 //!
-//!   oracle cases          writes the committed cases, as frames
-//!   oracle cases large    writes the cases of the large run
-//!   oracle answers        reads frames, writes the answer line of each
-//!   oracle list           reads frames, writes each as a line to read
+//!   oracle cases                writes the committed cases, as frames
+//!   oracle cases large          writes the cases of the large run
+//!   oracle answers              reads frames, writes the answer line of each
+//!   oracle list                 reads frames, writes each as a line to read
+//!   oracle listing              reads bytes, writes their listing
+//!   oracle listing-input NAME   writes the bytes of an input for the listing
 //!
-//! frames.rs has the layout of a frame, answers.rs the rules, known.rs the answers written down by
-//! hand, cases.rs the cases. Built by: rustc -O --edition 2021 -o target/oracle/oracle oracle/main.rs
+//! frames.rs has the layout of a frame; numbers.rs and blocks.rs the rules; answers.rs the line for
+//! each op and listing.rs the listing; known.rs the answers written down by hand; cases.rs and
+//! block_cases.rs the cases, random.rs what they draw from a seed.
+//! Built by: rustc -O --edition 2021 -o target/oracle/oracle oracle/main.rs
 
 mod answers;
+mod block_cases;
+mod blocks;
 mod cases;
 mod frames;
 mod known;
+mod listing;
+mod numbers;
+mod random;
 
 use frames::Item;
 use std::io::{self, BufWriter, Read, Write};
 use std::process::ExitCode;
+
+const USAGE: &str =
+    "usage: oracle cases | cases large | answers | list | listing | listing-input NAME";
 
 fn main() -> ExitCode {
     let words: Vec<String> = std::env::args().skip(1).collect();
@@ -25,7 +37,9 @@ fn main() -> ExitCode {
         ["cases", "large"] => write_cases(cases::large),
         ["answers"] => write_lines(answers::answer),
         ["list"] => write_lines(frames::list),
-        _ => Err("usage: oracle cases | cases large | answers | list".to_string()),
+        ["listing"] => write_listing(),
+        ["listing-input", name] => write_listing_input(name),
+        _ => Err(USAGE.to_string()),
     };
     match done {
         Ok(()) => ExitCode::SUCCESS,
@@ -38,18 +52,38 @@ fn main() -> ExitCode {
 
 fn write_cases(made: fn() -> Vec<u8>) -> Result<(), String> {
     known::check()?;
-    io::stdout().write_all(&made()).map_err(|e| e.to_string())
+    write_bytes(&made())
 }
 
 /// One line for each item of standard input.
 fn write_lines(line: fn(&Item) -> String) -> Result<(), String> {
-    let mut input = Vec::new();
-    io::stdin()
-        .read_to_end(&mut input)
-        .map_err(|e| e.to_string())?;
+    let input = read_all()?;
     let mut out = BufWriter::new(io::stdout());
     for item in frames::frames(&input) {
         writeln!(out, "{}", line(&item)).map_err(|e| e.to_string())?;
     }
     out.flush().map_err(|e| e.to_string())
+}
+
+fn write_listing() -> Result<(), String> {
+    known::check()?;
+    write_bytes(listing::listing(&read_all()?).as_bytes())
+}
+
+fn write_listing_input(name: &str) -> Result<(), String> {
+    known::check()?;
+    let input = listing::input(name).ok_or(format!("no input for the listing is named {name}"))?;
+    write_bytes(&input)
+}
+
+fn read_all() -> Result<Vec<u8>, String> {
+    let mut input = Vec::new();
+    io::stdin()
+        .read_to_end(&mut input)
+        .map_err(|e| e.to_string())?;
+    Ok(input)
+}
+
+fn write_bytes(bytes: &[u8]) -> Result<(), String> {
+    io::stdout().write_all(bytes).map_err(|e| e.to_string())
 }

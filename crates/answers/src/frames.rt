@@ -65,6 +65,19 @@ fn number(bytes: &[u8]) -> u64
     sum
 }
 
+// The number whose eight bytes stand at a place, or 0 where they do not.
+pub(crate) fn eight(bytes: &[u8], from: usize) -> u64 {
+    if bytes.len() < 8 {
+        return 0;
+    }
+    let last = bytes.len() - 8;
+    if last < from {
+        return 0;
+    }
+    let till = from + 8;
+    number(&bytes[from..till])
+}
+
 fn read_header(bytes: &[u8]) -> Header
     requires { ⌜ length (now bytes) ≡ 21 ⌝ }
     ensures { λ r. ⌜ Heads (now (bytes .entry)) r ⌝ }

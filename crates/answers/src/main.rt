@@ -1,7 +1,10 @@
 // Reads frames from standard input until it ends, and writes a line for each: what the desk answers to it.
+mod block_ops;
 mod frames;
 mod lines;
+mod list_ops;
 mod ops;
+mod phrases;
 mod signs;
 
 use frames::Next;

@@ -20,10 +20,10 @@ use Rattle.claims.specs.Writers.{Length}
 use Rattle.claims.specs.Try.{Starred}
 use Rattle.claims.specs.Claims.{Claims, Most, zero-of, OneLength}
 use Rattle.claims.proofs.Laws.{laws, accepts, refuses, excludes, exhausts, one-reply, within, within-mag}
-use Rattle.claims.proofs.Trips.{writes, write-read, read-write, more-behind, some-byte, one, one-written}
+use Rattle.claims.proofs.Trips.{writes, writes-list, write-read, read-write, more-behind, some-byte, one, one-written}
 use Rattle.claims.proofs.Spelled.{two-sentences, twos-complement, signed-form, one-too-many, signed-most}
 use Rattle.claims.proofs.Sources.{parse-same, serialize-same}
-use Rattle.claims.proofs.Same.{same-step, same-set}
+use Rattle.claims.proofs.Same.{same-step, same-set, same-list, same-written}
 use Rattle.claims.proofs.Damage.{front, back}
 use Rattle.claims.proofs.Stepped.{step-rows}
 use Rattle.claims.proofs.Settled.{set-down-rows}
@@ -98,6 +98,9 @@ all = record {
   damage-back = back;
   one-step = λ rule s p r r′ a b. same-step r r′ (a .is ∙ sym (b .is));
   one-set-down = λ s p r r′ a b. same-set r r′ (a .is ∙ sym (b .is));
+  writes-list = writes-list;
+  one-strict = λ s old r r′ out out′ a b. (same-list r r′ (a .answer ∙ sym (b .answer)), a .leaves ∙ sym (b .leaves));
+  one-list = λ ns s at r r′ out out′ a b. (same-written r r′ (a .answer ∙ sym (b .answer)), a .leaves ∙ sym (b .leaves));
   turn-rows = turn-rows;
   one-turn = λ v r r′ a b. a .is ∙ sym (b .is);
 }

@@ -23,6 +23,9 @@ use Rattle.blocks.specs.declared.Value.{Value}
 use Rattle.blocks.specs.declared.Value.the-variants as N
 use Rattle.blocks.specs.declared.SetDown.{SetDown}
 use Rattle.blocks.specs.declared.SetDown.the-variants as D
+use Rattle.lists.specs.Promise.{meaning as meaningList}
+use Rattle.lists.specs.declared.ReadList.{ReadList}
+use Rattle.lists.specs.declared.ReadList.the-variants as L
 use Rattle.sleb128.specs.Promise.{meaning as meaningI64}
 use Rattle.sleb128.specs.declared.ReadI64.{ReadI64}
 use Rattle.sleb128.specs.declared.ReadI64.the-variants as RI64
@@ -118,6 +121,17 @@ same-set = same-by meaningSet back is
     is : (r : SetDown) → back (meaningSet r) ≡ r
     is (D.At c) = refl
     is (D.Refused a) = ap D.Refused (refusal-back a)
+
+pub same-list : (r r′ : ReadList) → meaningList r ≡ meaningList r′ → r ≡ r′
+same-list = same-by meaningList back is
+  where
+    back : Answer ℕ → ReadList
+    back (gives n) = L.Filled (record { 0 = n })
+    back (refused k) = L.Refused (refusalOf k)
+
+    is : (r : ReadList) → back (meaningList r) ≡ r
+    is (L.Filled n) = refl
+    is (L.Refused a) = ap L.Refused (refusal-back a)
 
 pub same-step : (r r′ : Step) → meaningStep r ≡ meaningStep r′ → r ≡ r′
 same-step = same-by meaningStep back is

@@ -2,24 +2,26 @@
 use Prim.Native.Nat.{ℕ, _+_, _-_, _≤_, _<_}
 use mathlib.Core.Path.{_≡_, refl, ap, sym, _∙_}
 use mathlib.Core.List.{List, _++_, append-assoc}
-use mathlib.Core.Logic.{_↔_}
 use native.Mathlib.Omega.{arith}
-use borrow.Author.Tests.{le-leb, lt-leb}
+use borrow.Author.Tests.{le-leb, lt-leb, le-ltb, lt-ltb}
 use lib.ListN.{length, take, drop, length-append, length-drop, take-append-drop}
 use lib.Seq.{length-take-le, drop-at, drop-append-le, drop-drop, drop-append-seam}
 use Rattle.words.specs.Answer.{gives, meaning}
+use Rattle.words.specs.Refusal.{numberOf}
 use Rattle.words.specs.declared.Count.{Count}
-use Rattle.words.specs.declared.Refusal.the-variants.{NoRoom}
+use Rattle.words.specs.declared.Refusal.the-variants.{NoRoom, TooLong}
 use Rattle.words.specs.declared.Written.{Written}
 use Rattle.words.specs.declared.Written.the-variants as W
 use Rattle.words.proofs.Cases.{by-order}
 use Rattle.groups.specs.Begins.{Begins}
 use Rattle.groups.specs.Group.{Bytes}
 use Rattle.groups.specs.Laying.{writing, laid, Lays}
+use Rattle.lists.specs.Lists.{list-limit, forms}
+use Rattle.lists.specs.Promise.{WritesList}
 use Rattle.claims.specs.Readers.{Reader, loop64, recursive64, unsigned32, signed64, Value, number, Promised, form, OfWidth}
 use Rattle.claims.specs.Writers.{Laying}
-use Rattle.claims.specs.Claims.{Writes, WriteRead, ReadWrite, MoreBehind, SomeByte, OneWritten}
-use Rattle.claims.proofs.Same.{same-written, apart}
+use Rattle.claims.specs.Claims.{LaysExactly, Writes, WritesLists, WriteRead, ReadWrite, MoreBehind, SomeByte, OneWritten}
+use Rattle.claims.proofs.Same.{same-written, apart, refused-same}
 use Rattle.claims.proofs.Laws.{Laws, number-read, read-number}
 
 -- what is promised of a write, by its room
@@ -49,10 +51,7 @@ module _ (bytes s : List ℕ) (at : ℕ) (r : Written) (out : List ℕ) (w : Lay
       ap length (fits h .1)
       ∙ simp (length-append, length-drop, length-take-le at s (omega arith)) (omega arith))
 
-  exactly :
-      ((at + length bytes ≤ length s) ↔ ((r ≡ W.Bytes (record { 0 = length bytes })) × (out ≡ take at s ++ bytes ++ drop (at + length bytes) s)))
-      × ((length s < at + length bytes) ↔ ((r ≡ W.Refused NoRoom) × (out ≡ s)))
-      × (length out ≡ length s)
+  exactly : LaysExactly bytes s at r out
   exactly = (
     (fits, λ p. bytes-fit _ (p .0) .0),
     (no-room, λ p. by-order (length s) (at + length bytes) (λ h. h) (λ h. apart (ap meaning (sym (fits h .0) ∙ p .0)))),
@@ -72,6 +71,28 @@ lays signed64 v p = p
 -- 3
 pub writes : (k : Reader) → Writes k
 writes k v before at r after p = exactly (form k v) before at r after (lays k v p)
+
+-- a list no longer than the limit is laid down as one number's form is
+lays-list : (ns s : List ℕ) (at : ℕ) (r : Written) (out : List ℕ) → WritesList ns s at r out → length ns ≤ list-limit → Lays (forms ns) s at r out
+lays-list ns s at r out w h =
+    let t = le-ltb list-limit (length ns) h in
+    record { answer = w .answer ∙ rw t; leaves = w .leaves ∙ rw t }
+
+pub writes-list : WritesLists
+writes-list ns before at r after w = (
+  (
+    λ h. let t = lt-ltb list-limit (length ns) h in
+        (same-written r (W.Refused TooLong) (w .answer ∙ rw t), w .leaves ∙ rw t),
+    λ e. by-order list-limit (length ns) (λ h. h) (λ h. absurd (never (e .0) (lays-list ns before at r after w h))),
+  ),
+  λ h. exactly (forms ns) before at r after (lays-list ns before at r after w h),
+)
+  where
+    never : r ≡ W.Refused TooLong → Lays (forms ns) before at r after → ⊥
+    never e l =
+        by-order (length before) (at + length (forms ns))
+        (λ h. let z = refused-same NoRoom TooLong (ap meaning (sym (no-room (forms ns) before at r after l h .0) ∙ e)) in let q : _≡_ {A = ℕ} 5 7 = ap numberOf z in absurd (omega arith))
+        (λ h. apart (ap meaning (sym (fits (forms ns) before at r after l h .0) ∙ e)))
 
 -- 10
 pub one-written : (k : Reader) → OneWritten k

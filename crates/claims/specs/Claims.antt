@@ -19,7 +19,7 @@ use Rattle.words.specs.Answer.{gives, refused}
 use Rattle.words.specs.Promise.{Numbers}
 use Rattle.words.specs.declared.Count.{Count}
 use Rattle.words.specs.declared.Refusal.{Refusal}
-use Rattle.words.specs.declared.Refusal.the-variants.{NoRoom}
+use Rattle.words.specs.declared.Refusal.the-variants.{NoRoom, TooLong}
 use Rattle.words.specs.declared.Written.{Written}
 use Rattle.words.specs.declared.Written.the-variants as W
 use Rattle.groups.specs.Begins.{Begins}
@@ -37,6 +37,9 @@ use Rattle.blocks.specs.Promise.{Steps, SetsDown}
 use Rattle.blocks.specs.declared.Rule.{Rule}
 use Rattle.blocks.specs.declared.SetDown.{SetDown}
 use Rattle.blocks.specs.declared.Step.{Step}
+use Rattle.lists.specs.Lists.{list-limit, forms}
+use Rattle.lists.specs.Promise.{ReadsStrict, WritesList}
+use Rattle.lists.specs.declared.ReadList.{ReadList}
 use Rattle.turns.specs.Turns.{Means}
 use Rattle.turns.specs.declared.Turn.{Turn}
 use Rattle.claims.specs.Blocks.{StepRows, SetDownRows, Front, Back, TurnRows}
@@ -67,12 +70,22 @@ Exhausts k = (s : List ℕ) (at : ℕ) → Bytes s →
 
 -- 3. A writer answers the count and leaves exactly the form at the place and all else kept, or answers 5 and leaves every byte, the
 -- latter exactly when place + bytes needed > buffer length.
-abbrev pub Writes : Reader → Type 0
-Writes k = (v : Value k) (before : List ℕ) (at : ℕ) (r : Written) (after : List ℕ) → Laying k v before at r after →
-    ((at + length (form k v) ≤ length before)
-    ↔ ((r ≡ W.Bytes (record { 0 = length (form k v) })) × (after ≡ take at before ++ form k v ++ drop (at + length (form k v)) before)))
-    × ((length before < at + length (form k v)) ↔ ((r ≡ W.Refused NoRoom) × (after ≡ before)))
+abbrev pub LaysExactly : (bytes before : List ℕ) (at : ℕ) (r : Written) (after : List ℕ) → Type 0
+LaysExactly bytes before at r after =
+    ((at + length bytes ≤ length before)
+    ↔ ((r ≡ W.Bytes (record { 0 = length bytes })) × (after ≡ take at before ++ bytes ++ drop (at + length bytes) before)))
+    × ((length before < at + length bytes) ↔ ((r ≡ W.Refused NoRoom) × (after ≡ before)))
     × (length after ≡ length before)
+
+abbrev pub Writes : Reader → Type 0
+Writes k = (v : Value k) (before : List ℕ) (at : ℕ) (r : Written) (after : List ℕ) → Laying k v before at r after
+    → LaysExactly (form k v) before at r after
+
+-- A list of more numbers than the limit is refused by 7; any other is written as one number is, its forms one after another.
+abbrev pub WritesLists : Type 0
+WritesLists = (ns before : List ℕ) (at : ℕ) (r : Written) (after : List ℕ) → WritesList ns before at r after →
+    ((list-limit < length ns) ↔ ((r ≡ W.Refused TooLong) × (after ≡ before)))
+    × (length ns ≤ list-limit → LaysExactly (forms ns) before at r after)
 
 -- 4. The shortest unsigned form: one byte v if v < 128, else (v mod 128) + 128 followed by the form of v div 128.
 abbrev pub Shortest : Type 0
@@ -200,6 +213,11 @@ pub record Claims : Type 0 where
   pub damage-back : Back
   pub one-step : (rule : Rule) (s : List ℕ) (p : ℕ) (r r′ : Step) → Steps rule s p r → Steps rule s p r′ → r ≡ r′
   pub one-set-down : (s : List ℕ) (p : ℕ) (r r′ : SetDown) → SetsDown s p r → SetsDown s p r′ → r ≡ r′
+  -- lists
+  pub writes-list : WritesLists
+  pub one-strict : (s old : List ℕ) (r r′ : ReadList) (out out′ : List ℕ) → ReadsStrict s old r out → ReadsStrict s old r′ out′ → (r ≡ r′) × (out ≡ out′)
+  pub one-list : (ns s : List ℕ) (at : ℕ) (r r′ : Written) (out out′ : List ℕ) → WritesList ns s at r out → WritesList ns s at r′ out′
+      → (r ≡ r′) × (out ≡ out′)
   -- turns
   pub turn-rows : (v : ℤ) (r : Turn) → Means v r → TurnRows v r
   pub one-turn : (v : ℤ) (r r′ : Turn) → Means v r → Means v r′ → r ≡ r′

@@ -1,0 +1,62 @@
+-- The answers of strict reading, from how many numbers the block has, or its first fault.
+use Prim.Native.Nat.{ℕ, _≤_, _<_}
+use mathlib.Core.Path.{_≡_, refl}
+use mathlib.Core.List.{List}
+use native.Mathlib.Omega.{arith}
+use borrow.Author.Tests.{lt-ltb, le-ltb, le-leb, lt-leb}
+use lib.ListN.{length}
+use Rattle.words.specs.Answer.{Answer, gives, refused}
+use Rattle.words.specs.Refusal.{numberOf}
+use Rattle.words.specs.declared.Refusal.{Refusal}
+use Rattle.words.specs.declared.Refusal.the-variants as Why
+use Rattle.blocks.specs.Block.{block-limit}
+use Rattle.lists.specs.Lists.{numbers, counted, filling, strict, filled}
+use Rattle.lists.specs.Inner.{many, Room, Fits}
+use Rattle.lists.specs.Promise.{meaning, ReadsStrict}
+use Rattle.lists.specs.declared.ReadList.{ReadList}
+use Rattle.lists.specs.declared.ReadList.the-variants.{Refused}
+
+-- strict reading, from what the numbers of the block come to
+module _ (s old : List ℕ) (short : length s ≤ block-limit) where
+  pub answered : {r : ReadList} {out : List ℕ} → meaning r ≡ counted (numbers s) (length old) → out ≡ filling (numbers s) old
+      → ReadsStrict s old r out
+  unfolding strict filled
+  answered e f = let t = le-ltb block-limit (length s) short in record { answer = rw t e; leaves = rw t f }
+
+pub counted-room : (a : Answer (List ℕ)) (room : ℕ) → Room a 0 room → many a ≡ counted a room
+counted-room (gives ns) room h = rw (le-leb (length ns) room (omega arith))
+counted-room (refused k) room h = refl
+
+room-of : (a : Answer (List ℕ)) {n room : ℕ} → gives n ≡ many a → n ≤ room → Room a 0 room
+room-of (gives ns) {n} e h = let f : n ≡ length ns = cc in omega arith
+room-of (refused k) e h = let z : _≡_ {A = ℕ} 0 1 = cc in absurd (omega arith)
+
+counted-full : (a : Answer (List ℕ)) {n : ℕ} (room : ℕ) → gives n ≡ many a → room < n → refused 5 ≡ counted a room
+counted-full (gives ns) {n} room e h = let f : n ≡ length ns = cc in rw (lt-leb (length ns) room (omega arith))
+counted-full (refused k) room e h = let z : _≡_ {A = ℕ} 0 1 = cc in absurd (omega arith)
+
+filling-full : (a : Answer (List ℕ)) {n : ℕ} (old : List ℕ) → gives n ≡ many a → length old < n → old ≡ filling a old
+filling-full (gives ns) {n} old e h = let f : n ≡ length ns = cc in rw (lt-leb (length ns) (length old) (omega arith))
+filling-full (refused k) old e h = refl
+
+counted-fault : (a : Answer (List ℕ)) {k : ℕ} (room : ℕ) → refused k ≡ many a → refused k ≡ counted a room
+counted-fault (gives ns) room e = let z : _≡_ {A = ℕ} 0 1 = cc in absurd (omega arith)
+counted-fault (refused k) room e = e
+
+filling-fault : (a : Answer (List ℕ)) {k : ℕ} (old : List ℕ) → refused k ≡ many a → old ≡ filling a old
+filling-fault (gives ns) old e = let z : _≡_ {A = ℕ} 0 1 = cc in absurd (omega arith)
+filling-fault (refused k) old e = refl
+
+pub list-fits : (s : List ℕ) {n room : ℕ} → length s ≤ block-limit → gives n ≡ many (numbers s) → n ≤ room → Fits s room
+list-fits s short e h = record { short = short; enough = room-of (numbers s) e h }
+
+module _ (s old : List ℕ) where
+  pub block-too-long : block-limit < length s → ReadsStrict s old (Refused Why.TooLong) old
+  unfolding strict filled
+  block-too-long h = let t = lt-ltb block-limit (length s) h in record { answer = rw t; leaves = rw t }
+
+  pub block-faulty : {k : Refusal} → length s ≤ block-limit → refused (numberOf k) ≡ many (numbers s) → ReadsStrict s old (Refused k) old
+  block-faulty h e = answered s old h (counted-fault (numbers s) (length old) e) (filling-fault (numbers s) old e)
+
+  pub list-full : {n : ℕ} → length s ≤ block-limit → gives n ≡ many (numbers s) → length old < n → ReadsStrict s old (Refused Why.NoRoom) old
+  list-full short e h = answered s old short (counted-full (numbers s) (length old) e h) (filling-full (numbers s) old e h)

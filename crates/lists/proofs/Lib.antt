@@ -1,0 +1,7 @@
+pub mod Totals
+pub mod Layings
+pub mod Cuts
+pub mod Passing
+pub mod Scanning
+pub mod Answers
+pub mod Filling

@@ -1,0 +1,67 @@
+-- The first pass: what its loop holds, over the numbers that are left of the block.
+use Prim.Native.Nat.{ℕ, _+_, _≤_, _<_}
+use mathlib.Core.Path.{_≡_, refl, ap, sym, _∙_}
+use mathlib.Core.List.{List, []}
+use mathlib.Core.Bool.{true}
+use native.Mathlib.Omega.{arith}
+use lib.ListN.{length, drop, length-drop}
+use Rattle.words.specs.Answer.{Answer, gives, refused}
+use Rattle.blocks.specs.Block.{block-limit, isStart}
+use Rattle.blocks.proofs.Runs.{front-starts}
+use Rattle.lists.specs.Lists.{numbers}
+use Rattle.lists.specs.Inner.{ahead, many, StartsBefore, Behind}
+use Rattle.lists.proofs.Cuts.{numbers-none}
+
+abbrev added : ℕ → Answer ℕ → Answer ℕ
+added n (gives m) = gives (n + m)
+added n (refused k) = refused k
+
+added-none : (a : Answer ℕ) → a ≡ added 0 a
+added-none (gives m) = ap gives (omega arith)
+added-none (refused k) = refl
+
+added-one : (n v : ℕ) (a : Answer (List ℕ)) → added n (many (ahead v a)) ≡ added (n + 1) (many a)
+added-one n v (gives ns) = ap gives (omega arith)
+added-one n v (refused k) = refl
+
+-- count numbers stand in front of the start at
+pub record Counted (s : List ℕ) (at count : ℕ) : Type 0 where
+  pub short : length s ≤ block-limit
+  pub within : at ≤ length s
+  pub starts : isStart s at ≡ true
+  pub few : count ≤ at
+  pub left : many (numbers s) ≡ added count (many (numbers (drop at s)))
+
+module _ (s : List ℕ) where
+  pub none-counted : length s ≤ block-limit → Counted s 0 0
+  none-counted h =
+      record {
+        short = h;
+        within = omega arith;
+        starts = sym (front-starts s 0 (omega arith));
+        few = omega arith;
+        left = added-none (many (numbers s));
+      }
+
+  module _ {at count : ℕ} (g : Counted s at count) where
+    pub start-here : at < length s → StartsBefore s at
+    start-here h = record { short = g .short; before-end = h; starts = g .starts }
+
+    pub one-counted : {v q : ℕ} → Behind s at v q → Counted s q (count + 1)
+    one-counted {v} {q} b =
+        record {
+          short = g .short;
+          within = b .within;
+          starts = b .starts;
+          few = omega (arith, g .few, b .further);
+          left = g .left ∙ rw (b .left) (added-one count v (numbers (drop q s)));
+        }
+
+    pub fault-found : {k : ℕ} → numbers (drop at s) ≡ refused k → refused k ≡ many (numbers s)
+    fault-found e = sym (g .left ∙ rw e)
+
+    pub nothing-left : length s ≤ at → numbers (drop at s) ≡ gives []
+    nothing-left h = numbers-none (drop at s) (omega (arith, length-drop at s))
+
+    pub all-counted : length s ≤ at → gives count ≡ many (numbers s)
+    all-counted h = sym (g .left ∙ rw (nothing-left h) (ap gives (omega arith)))

@@ -1,0 +1,62 @@
+-- What the functions inside the crate ask and promise, over what is left of the block.
+--
+--   ahead v a           the answer a with the number v in front
+--   many a              how many numbers
+--   Room a i room       a is numbers, and behind i others there is room for them
+--   Fits s room         the block s has no fault, and there is room for its numbers
+--   StartsBefore s p    p is a start of the block s, before its end
+--   Behind s p v q      the number v stands at the start p, and q is the start behind it
+--   Passes s p r        r says what stands at the start p: a fault, or a number and the place behind it
+--   meaningScan         what the first pass's answer says
+--   Scans s r           r says how many numbers the block s has, or its first fault
+use Prim.Native.Nat.{ℕ, _+_, _≤_, _<_}
+use mathlib.Core.List.{List, _∷_}
+use mathlib.Core.Bool.{true}
+use mathlib.Core.Path.{_≡_}
+use lib.ListN.{length, drop}
+use Rattle.words.specs.Answer.{Answer, gives, refused}
+use Rattle.words.specs.Refusal.{numberOf}
+use Rattle.blocks.specs.Block.{block-limit, isStart}
+use Rattle.lists.specs.Lists.{numbers}
+use Rattle.lists.specs.declared.Passed.{Passed}
+use Rattle.lists.specs.declared.Passed.the-variants as P
+use Rattle.lists.specs.declared.Scanned.{Scanned}
+use Rattle.lists.specs.declared.Scanned.the-variants as C
+
+abbrev pub ahead : ℕ → Answer (List ℕ) → Answer (List ℕ)
+ahead v (gives ns) = gives (v ∷ ns)
+ahead v (refused k) = refused k
+
+abbrev pub many : Answer (List ℕ) → Answer ℕ
+many (gives ns) = gives (length ns)
+many (refused k) = refused k
+
+abbrev pub Room : Answer (List ℕ) → ℕ → ℕ → Type 0
+Room (gives ns) i room = i + length ns ≤ room
+Room (refused k) i room = ⊥
+
+pub record Fits (s : List ℕ) (room : ℕ) : Type 0 where
+  pub short : length s ≤ block-limit
+  pub enough : Room (numbers s) 0 room
+
+pub record StartsBefore (s : List ℕ) (p : ℕ) : Type 0 where
+  pub short : length s ≤ block-limit
+  pub before-end : p < length s
+  pub starts : isStart s p ≡ true
+
+pub record Behind (s : List ℕ) (p v q : ℕ) : Type 0 where
+  pub further : p < q
+  pub within : q ≤ length s
+  pub starts : isStart s q ≡ true
+  pub left : numbers (drop p s) ≡ ahead v (numbers (drop q s))
+
+abbrev pub Passes : List ℕ → ℕ → Passed → Type 0
+Passes s p (P.Number v q) = Behind s p v q
+Passes s p (P.Fault why) = numbers (drop p s) ≡ refused (numberOf why)
+
+abbrev pub meaningScan : Scanned → Answer ℕ
+meaningScan (C.Count n) = gives n
+meaningScan (C.Fault why) = refused (numberOf why)
+
+pub record Scans (s : List ℕ) (r : Scanned) : Type 0 where
+  pub is : meaningScan r ≡ many (numbers s)

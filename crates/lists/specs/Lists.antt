@@ -1,0 +1,50 @@
+-- Document 01, "Blocks, groups and tails": strict reading and list writing, over lists of numbers.
+--
+--   list-limit       the most numbers of a list
+--   numbersOf gs t   the numbers of the groups gs, if each is one and there is no tail t; else the first fault: 2 or 3 in a group, 1 for a tail
+--   strict s room    the answer of strict reading of the block s into a slice of so many numbers: how many, or 7, the first fault, 5
+--   filled s old     the slice afterwards
+--   forms ns         the forms of the numbers, one after another
+use Prim.Native.Nat.{ℕ}
+use mathlib.Core.List.{List, [], _∷_, _++_}
+use lib.Dec.{leb, ltb}
+use lib.ListN.{length, drop}
+use Rattle.words.specs.Answer.{pick, Answer, gives, refused}
+use Rattle.groups.specs.Width.{reading}
+use Rattle.uleb128.specs.Unsigned.{form, u64}
+use Rattle.blocks.specs.Block.{block-limit}
+use Rattle.blocks.specs.Cut.{cut}
+
+abbrev pub list-limit : ℕ
+list-limit = 4096
+
+abbrev pub joined : Answer (ℕ × ℕ) → Answer (List ℕ) → Answer (List ℕ)
+joined (refused k) a = refused k
+joined (gives p) (refused k) = refused k
+joined (gives p) (gives ns) = gives (p .0 ∷ ns)
+
+unfoldable pub numbersOf : List (List ℕ) → List ℕ → Answer (List ℕ)
+numbersOf [] [] = gives []
+numbersOf [] (b ∷ t) = refused 1
+numbersOf (g ∷ gs) t = joined (reading u64 g) (numbersOf gs t)
+
+abbrev pub numbers : List ℕ → Answer (List ℕ)
+numbers s = numbersOf (cut s .groups) (cut s .tail)
+
+abbrev pub counted : Answer (List ℕ) → ℕ → Answer ℕ
+counted (refused k) room = refused k
+counted (gives ns) room = pick (leb (length ns) room) (gives (length ns)) (refused 5)
+
+abbrev pub filling : Answer (List ℕ) → List ℕ → List ℕ
+filling (refused k) old = old
+filling (gives ns) old = pick (leb (length ns) (length old)) (ns ++ drop (length ns) old) old
+
+unfoldable pub strict : List ℕ → ℕ → Answer ℕ
+strict s room = pick (ltb block-limit (length s)) (refused 7) (counted (numbers s) room)
+
+unfoldable pub filled : List ℕ → List ℕ → List ℕ
+filled s old = pick (ltb block-limit (length s)) old (filling (numbers s) old)
+
+unfoldable pub forms : List ℕ → List ℕ
+forms [] = []
+forms (v ∷ ns) = form v ++ forms ns

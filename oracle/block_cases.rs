@@ -1,0 +1,409 @@
+//! The cases for blocks, lists and turns: ops 12 to 17.
+//!
+//!   whole   those that the repository holds
+//!   more    those of the large run
+
+use crate::blocks::{starts, MOST};
+use crate::cases::{all_bytes, each_length, filler, numbers, FAR, SPREAD};
+use crate::frames::{put, put_list};
+use crate::listing;
+use crate::numbers::{form, length, power, Rule};
+use crate::random::Random;
+use Rule::*;
+
+const STEP_UNSIGNED: u8 = 12;
+const STEP_SIGNED: u8 = 13;
+const SET_DOWN: u8 = 14;
+const STRICT: u8 = 15;
+const LIST: u8 = 16;
+const TURN: u8 = 17;
+
+const STEPS: [u8; 2] = [STEP_UNSIGNED, STEP_SIGNED];
+const WITH_PLACE: [u8; 3] = [STEP_UNSIGNED, STEP_SIGNED, SET_DOWN];
+
+pub fn whole(input: &mut Vec<u8>) {
+    for byte in all_bytes() {
+        at_places(input, &[byte], 0..=2);
+        into_slices(input, &[byte], 0..=2);
+    }
+    for first in SPREAD {
+        for second in SPREAD {
+            at_places(input, &[first, second], 0..=3);
+            into_slices(input, &[first, second], 0..=2);
+        }
+    }
+    runs(input);
+    growth(input);
+    places(input);
+    injuries(input);
+    lost_fronts(input);
+    faults(input);
+    slices(input);
+    rooms(input);
+    odd_frames(input);
+    turns(input);
+    limits(input);
+    random_cases(input, 4, 2_000, 40);
+}
+
+pub fn more(input: &mut Vec<u8>) {
+    for first in all_bytes() {
+        for second in all_bytes() {
+            at_places(input, &[first, second], 0..=2);
+            into_slices(input, &[first, second], 1..=2);
+        }
+    }
+    long_blocks(input);
+    long_lists(input);
+    random_cases(input, 5, 100_000, 40);
+    random_cases(input, 6, 100_000, 300);
+}
+
+fn at_places(input: &mut Vec<u8>, block: &[u8], places: impl IntoIterator<Item = u64>) {
+    for place in places {
+        for op in WITH_PLACE {
+            put(input, op, place, 0, block);
+        }
+    }
+}
+
+fn into_slices(input: &mut Vec<u8>, block: &[u8], sizes: impl IntoIterator<Item = u64>) {
+    for size in sizes {
+        put(input, STRICT, size, 0, block);
+    }
+}
+
+/// Both rules from each start, and from the length, which is none behind a tail.
+fn stepped_through(input: &mut Vec<u8>, block: &[u8]) {
+    let mut places = starts(block);
+    places.push(block.len());
+    places.dedup();
+    for place in places {
+        for op in STEPS {
+            put(input, op, place as u64, 0, block);
+        }
+    }
+}
+
+// ---- steps and set-down
+
+/// Runs of 80 and of ff, short or around the most bytes, at place 0 and behind a group: tails, or
+/// groups if a last byte ends them.
+fn runs(input: &mut Vec<u8>) {
+    for front in [&[][..], &[0x05]] {
+        let start = front.len() as u64;
+        for count in [0, 1, 2, 3, 8, 9, 10, 11, 12] {
+            for byte in [0x80, 0xff] {
+                for last in [&[][..], &[0x00], &[0x01], &[0x7f, 0x05]] {
+                    let block = [front, &vec![byte; count], last].concat();
+                    for op in STEPS {
+                        put(input, op, start, 0, &block);
+                    }
+                    put(input, SET_DOWN, start + 1, 0, &block);
+                    put(input, STRICT, 1, 0, &block);
+                }
+            }
+        }
+    }
+}
+
+/// The forms beside each value at which one grows, by both rules and strictly.
+fn growth(input: &mut Vec<u8>) {
+    for rule in [U64, I64] {
+        for v in numbers(rule) {
+            let block = form(rule, v);
+            for op in STEPS {
+                put(input, op, 0, 0, &block);
+            }
+            put(input, STRICT, 1, 0, &block);
+        }
+    }
+}
+
+/// Blocks with and without a tail, at every place, at the length and past it.
+fn places(input: &mut Vec<u8>) {
+    let document = listing::input("document").unwrap();
+    let over = [&[0x05][..], &[0xff; 11], &[0x01, 0x80, 0x00, 0x40]].concat();
+    for block in [&document[..], &over, &over[..15], &[0x80; 12], &[]] {
+        let end = block.len() as u64;
+        let far = [1 << 32, (1 << 32) + 1, 1 << 63, FAR - end, FAR - 1, FAR];
+        at_places(input, block, (0..=end + 2).chain(far));
+    }
+}
+
+/// An old block, and new ones with one stretch of it replaced: by less, by more, by nothing, at the
+/// front, in the middle, at the end.
+fn injuries(input: &mut Vec<u8>) {
+    let document = listing::input("document").unwrap();
+    let other = [0x40, 0xc0, 0x00, 0x80, 0x7f, 0xff, 0x7f, 0xe5, 0x8e, 0x26];
+    for old in [&document[..], &other] {
+        stepped_through(input, old);
+        let end = old.len();
+        for (from, to) in [
+            (0, 0),
+            (0, 1),
+            (0, 2),
+            (2, 3),
+            (3, 5),
+            (4, 8),
+            (end - 1, end),
+            (end, end),
+        ] {
+            for stretch in [&[][..], &[0x07], &[0x80], &[0xff, 0xff, 0x01]] {
+                if from < to || !stretch.is_empty() {
+                    let new = [&old[..from], stretch, &old[to..]].concat();
+                    stepped_through(input, &new);
+                    put(input, SET_DOWN, to as u64, 0, &new);
+                }
+            }
+        }
+    }
+}
+
+/// "A copy whose front is lost is read from just past its first byte below 128."
+fn lost_fronts(input: &mut Vec<u8>) {
+    let block = listing::input("document").unwrap();
+    for lost in 0..=block.len() {
+        put(input, SET_DOWN, 1, 0, &block[lost..]);
+        stepped_through(input, &block[lost..]);
+    }
+}
+
+// ---- strict reading
+
+/// Faults of every kind in both orders, with room for the numbers between them and without. Bytes
+/// that would be a tail at the end run on into the number behind them elsewhere.
+fn faults(input: &mut Vec<u8>) {
+    let over = [&[0xff; 9][..], &[0x02]].concat();
+    let longer = [&[0x80; 10][..], &[0x00]].concat();
+    let faults = [&[0x80, 0x00][..], &over, &longer, &[0x80], &[0x80; 10]];
+    for first in faults {
+        for second in faults {
+            let block = [&[0x05], first, &[0x80, 0x01], second].concat();
+            into_slices(input, &block, [0, 2, 4]);
+        }
+    }
+}
+
+/// Numbers of each length, into slices too small, just large enough and larger.
+fn slices(input: &mut Vec<u8>) {
+    let all = each_length(U64);
+    for count in 0..=6 {
+        let block: Vec<u8> = all[..count].iter().flat_map(|v| form(U64, *v)).collect();
+        into_slices(input, &block, 0..=7);
+    }
+    let size = all.len() as u64;
+    let block: Vec<u8> = all.iter().rev().flat_map(|v| form(U64, *v)).collect();
+    into_slices(input, &block, [size - 1, size, size + 2]);
+}
+
+// ---- list writing
+
+/// Lists into buffers too small by one, just large enough and larger, at places around the last
+/// that fits, around the buffer's length, and so far that place + bytes needed is more than 64 bits
+/// hold.
+fn rooms(input: &mut Vec<u8>) {
+    let lists = [
+        &[][..],
+        &[0],
+        &[300],
+        &[0, 127, 128],
+        &[u64::MAX, 0],
+        &[16383, 1 << 63, 5, 16384],
+    ];
+    for list in lists {
+        let needed = needed_by(list);
+        for room in [needed.saturating_sub(1), needed, needed + 1, needed + 3] {
+            let spare = room.saturating_sub(needed);
+            let mut places = vec![0, 1, spare, spare + 1, room, room + 1, 1 << 32, 1 << 63];
+            places.extend([FAR - needed, FAR - needed.max(1) + 1, FAR - needed / 2, FAR]);
+            places.sort();
+            places.dedup();
+            for place in places {
+                put_list(input, place, list, &filler(room as usize));
+            }
+        }
+    }
+    let all: Vec<u64> = numbers(U64).iter().map(|v| *v as u64).collect();
+    put_list(input, 3, &all, &filler(needed_by(&all) as usize + 7));
+    for v in all {
+        let list = [v, 5, v];
+        put_list(input, 1, &list, &filler(needed_by(&list) as usize + 2));
+    }
+}
+
+fn needed_by(list: &[u64]) -> u64 {
+    list.iter().map(|v| length(U64, *v as i128) as u64).sum()
+}
+
+// ---- frames and turns
+
+/// Lists that the frame does not hold, also where 8 times their numbers is more than 64 bits hold
+/// and would seem to fit if it were cut to them; slices above the cap, with a block too long as
+/// well; fields that an op does not ask for.
+fn odd_frames(input: &mut Vec<u8>) {
+    for place in [0, FAR] {
+        let wrapping = [1 << 61, (1 << 61) + 1, 1 << 63, FAR];
+        for count in [1, 2, 3, 4_097, 1 << 32].into_iter().chain(wrapping) {
+            for n in [0, 7, 8, 15, 16, 17] {
+                put(input, LIST, place, count, &filler(n));
+            }
+        }
+    }
+    for size in [8_193, 1 << 32, (1 << 32) + 1, 1 << 63, FAR] {
+        put(input, STRICT, size, 0, &[0x80, 0x01, 0x05]);
+    }
+    put(input, STRICT, 8_193, 0, &[5; MOST + 1]);
+    for op in [STEP_UNSIGNED, STEP_SIGNED, SET_DOWN, STRICT, TURN] {
+        put(input, op, 1, FAR, &[0x05, 0x81, 0x01]);
+    }
+}
+
+/// Zero, every power of two, its negation, and the number below each.
+fn turns(input: &mut Vec<u8>) {
+    for of in 0..=63 {
+        for v in [power(of), -power(of)] {
+            for turn in [v - 1, v] {
+                put(input, TURN, turn as u64, 0, &[]);
+            }
+        }
+    }
+}
+
+// ---- limits
+
+/// Blocks of the most bytes and of one less. More of them, those of one more, and lists at their
+/// limit are among the answers written down by hand.
+fn limits(input: &mut Vec<u8>) {
+    let tail = |count: usize| vec![0x80; count];
+    let group = |count: usize| [tail(count - 1), vec![0x01]].concat();
+    for count in [MOST - 1, MOST] {
+        put(input, STEP_UNSIGNED, 0, 0, &tail(count));
+        put(input, STEP_SIGNED, 0, 0, &group(count));
+    }
+    put(input, SET_DOWN, 1, 0, &group(MOST - 1));
+    put(input, SET_DOWN, 1, 0, &tail(MOST));
+    put(input, STRICT, 2, 0, &[5; MOST - 1]);
+}
+
+/// Random blocks around the most bytes.
+fn long_blocks(input: &mut Vec<u8>) {
+    let mut random = Random(7);
+    for count in MOST - 3..=MOST + 3 {
+        for _ in 0..10 {
+            let block = random.block(count);
+            for op in WITH_PLACE {
+                let place = random.place_of(&block);
+                put(input, op, place, 0, &block);
+            }
+            put(input, STRICT, 1, 0, &block);
+            let forms = random.list_block(count);
+            let size = groups(&forms) as u64;
+            into_slices(input, &forms, [size - 1, size, size + 1]);
+        }
+    }
+}
+
+/// Lists of the longest forms around the most numbers, with room and without; one that its frame
+/// does not hold; and the longest that a frame does.
+fn long_lists(input: &mut Vec<u8>) {
+    for count in MOST - 1..=MOST + 1 {
+        let list = vec![u64::MAX; count];
+        for place in [0, 3, 4, FAR] {
+            put_list(input, place, &list, &filler(10 * count + 3));
+        }
+        put_list(input, 0, &list, &[]);
+        put(input, LIST, 0, count as u64, &filler(8 * count - 1));
+    }
+    put_list(input, 0, &[5; 25_000], &[]);
+    put_list(input, 0, &[], &filler(200_000));
+}
+
+// ---- random cases
+
+/// How many groups a block has.
+fn groups(block: &[u8]) -> usize {
+    block.iter().filter(|byte| **byte < 128).count()
+}
+
+impl Random {
+    /// Mostly a start, at times any place of the block or one past its end.
+    fn place_of(&mut self, block: &[u8]) -> u64 {
+        let starts = starts(block);
+        match self.below(16) {
+            0 => self.far(),
+            1..=3 => self.below(block.len() + 3) as u64,
+            _ => starts[self.below(starts.len())] as u64,
+        }
+    }
+
+    /// A block of no more than so many bytes, at least one time in two without a tail.
+    fn block_up_to(&mut self, longest: usize) -> Vec<u8> {
+        let count = self.below(longest + 1);
+        let mut block = self.block(count);
+        if self.below(2) == 0 {
+            block.truncate(*starts(&block).last().unwrap());
+        }
+        block
+    }
+
+    fn step_case(&mut self, input: &mut Vec<u8>, op: u8, longest: usize) {
+        let block = self.block_up_to(longest);
+        put(input, op, self.place_of(&block), 0, &block);
+    }
+
+    fn set_down_case(&mut self, input: &mut Vec<u8>, longest: usize) {
+        let block = self.block_up_to(longest);
+        let place = match self.below(16) {
+            0 => self.far(),
+            _ => self.below(block.len() + 2) as u64,
+        };
+        put(input, SET_DOWN, place, 0, &block);
+    }
+
+    fn strict_case(&mut self, input: &mut Vec<u8>, longest: usize) {
+        let most = self.below(longest + 1);
+        let mut block = self.list_block(most);
+        match self.below(4) {
+            0 => block = self.block_up_to(longest),
+            1 if !block.is_empty() => block = self.damaged(block),
+            _ => {}
+        }
+        let size = (groups(&block) + self.below(3)).saturating_sub(self.below(3));
+        put(input, STRICT, size as u64, 0, &block);
+    }
+
+    /// One time in sixteen the frame says one number more than the list has.
+    fn list_case(&mut self, input: &mut Vec<u8>, longest: usize) {
+        let count = self.below(longest / 5);
+        let list: Vec<u64> = (0..count).map(|_| self.number(U64) as u64).collect();
+        let needed = needed_by(&list) as usize;
+        let room = (needed + self.below(6)).saturating_sub(self.below(3));
+        let last = (room + 1).saturating_sub(needed);
+        let place = match self.below(16) {
+            0 => self.far(),
+            1 | 2 => self.below(room + 3) as u64,
+            3..=5 => last as u64,
+            _ => self.below(last.max(1)) as u64,
+        };
+        let mut bytes: Vec<u8> = list.iter().flat_map(|v| v.to_le_bytes()).collect();
+        bytes.extend((0..room).map(|_| self.byte()));
+        let said = count + usize::from(self.below(16) == 0);
+        put(input, LIST, place, said as u64, &bytes);
+    }
+}
+
+/// Random cases from a seed, spread over ops 12 to 17, with blocks of no more than so many bytes.
+fn random_cases(input: &mut Vec<u8>, seed: u64, count: usize, longest: usize) {
+    let mut random = Random(seed);
+    for _ in 0..count {
+        match random.below(16) {
+            0..=3 => random.step_case(input, STEP_UNSIGNED, longest),
+            4..=7 => random.step_case(input, STEP_SIGNED, longest),
+            8 | 9 => random.set_down_case(input, longest),
+            10..=12 => random.strict_case(input, longest),
+            13 | 14 => random.list_case(input, longest),
+            _ => put(input, TURN, random.number(I64) as u64, 0, &[]),
+        }
+    }
+}

@@ -1,0 +1,148 @@
+//! Document 01's rules for blocks and lists.
+//!
+//!   Part, parts   a group or the tail of a block; all that a block has, in order
+//!   starts        the starts of a block, in order
+//!   Step          what a step says
+//!   meaning       what is said of a group or a tail by a rule
+//!   step, set_down, strict, write_list   the block desk
+//!
+//! A block is taken apart whole, and the part that begins at the place is looked up: it is held
+//! against a program that walks the bytes from the place. `step` stops the run if the parts and the
+//! starts disagree, and `write_list` if strict reading does not give the list back.
+
+use crate::numbers::{
+    form, read, store, Refusal, Rule, END, NOT_A_START, NOT_SHORTEST, NO_ROOM, NO_START, OVERFLOW,
+    PLACE, TOO_LONG,
+};
+
+/// The most bytes of a block, and the most numbers of a list.
+pub const MOST: usize = 4_096;
+
+pub struct Part<'a> {
+    pub place: usize,
+    pub bytes: &'a [u8],
+}
+
+/// "A group runs from a start through the next byte below 128. Bytes after the last such byte are
+/// the tail."
+pub fn parts(block: &[u8]) -> Vec<Part<'_>> {
+    let mut all = Vec::new();
+    let mut place = 0;
+    for bytes in block.split_inclusive(|byte| *byte < 128) {
+        all.push(Part { place, bytes });
+        place += bytes.len();
+    }
+    all
+}
+
+/// "Place 0, or a place just past a byte below 128, up to and including the length of the block."
+pub fn starts(block: &[u8]) -> Vec<usize> {
+    (0..=block.len())
+        .filter(|place| *place == 0 || block[*place - 1] < 128)
+        .collect()
+}
+
+/// Each with its length: of the tail, or of the whole group, also where that is more than ten.
+pub enum Step {
+    Number(i128, usize),
+    Gap(Refusal, usize),
+    Tail(usize),
+    Finished,
+}
+
+/// Without a byte below 128 it is a tail, whatever its length. Else "the group's bytes are read by
+/// the rule", and a gap's reason is what that refuses with.
+pub fn meaning(rule: Rule, bytes: &[u8]) -> Step {
+    let count = bytes.len();
+    if bytes.iter().all(|byte| *byte >= 128) {
+        return Step::Tail(count);
+    }
+    match read(rule, bytes, 0) {
+        Ok((v, taken)) => {
+            assert!(taken == count);
+            Step::Number(v, count)
+        }
+        Err(reason) => {
+            assert!(reason == OVERFLOW || reason == NOT_SHORTEST);
+            Step::Gap(reason, count)
+        }
+    }
+}
+
+/// The tests that a step and set-down begin with.
+fn test_7_and_4(block: &[u8], place: u64) -> Result<(), Refusal> {
+    if block.len() > MOST {
+        return Err(TOO_LONG);
+    }
+    if place as u128 > block.len() as u128 {
+        return Err(PLACE);
+    }
+    Ok(())
+}
+
+/// What begins at a place, and the next place. 6 is "a step asked for where no group, tail or end
+/// begins".
+pub fn step(rule: Rule, block: &[u8], place: u64) -> Result<(Step, usize), Refusal> {
+    test_7_and_4(block, place)?;
+    let place = place as usize;
+    if place == block.len() {
+        return Ok((Step::Finished, place));
+    }
+    let all = parts(block);
+    let found = all.iter().find(|part| part.place == place);
+    assert!(found.is_some() == starts(block).contains(&place));
+    let Some(part) = found else {
+        return Err(NOT_A_START);
+    };
+    let said = meaning(rule, part.bytes);
+    let next = match said {
+        Step::Number(..) | Step::Gap(..) => place + part.bytes.len(),
+        Step::Tail(_) | Step::Finished => place,
+    };
+    Ok((said, next))
+}
+
+/// "The least start at or after its place, or 8."
+pub fn set_down(block: &[u8], place: u64) -> Result<usize, Refusal> {
+    test_7_and_4(block, place)?;
+    let at_or_after = |start: &usize| *start as u128 >= place as u128;
+    starts(block).into_iter().find(at_or_after).ok_or(NO_START)
+}
+
+/// "Tests 7, then the first fault by place (2 or 3 in a group, 1 for a tail, even of ten bytes or
+/// more), then 5. It fills the front of the answer slice, leaves the rest, and gives the count."
+pub fn strict(block: &[u8], slice: &mut [u64]) -> Result<usize, Refusal> {
+    if block.len() > MOST {
+        return Err(TOO_LONG);
+    }
+    let mut numbers = Vec::new();
+    for part in parts(block) {
+        match meaning(Rule::U64, part.bytes) {
+            Step::Number(v, _) => numbers.push(v as u64),
+            Step::Gap(reason, _) => return Err(reason),
+            Step::Tail(_) => return Err(END),
+            Step::Finished => unreachable!(),
+        }
+    }
+    if numbers.len() > slice.len() {
+        return Err(NO_ROOM);
+    }
+    slice[..numbers.len()].copy_from_slice(&numbers);
+    Ok(numbers.len())
+}
+
+/// "Tests 7, then 5", and "puts the forms one after another". Gives the count of bytes.
+pub fn write_list(list: &[u64], buffer: &mut [u8], place: u64) -> Result<usize, Refusal> {
+    if list.len() > MOST {
+        return Err(TOO_LONG);
+    }
+    let bytes: Vec<u8> = list
+        .iter()
+        .flat_map(|v| form(Rule::U64, *v as i128))
+        .collect();
+    if bytes.len() <= MOST {
+        let mut back = vec![0; list.len()];
+        assert!(strict(&bytes, &mut back) == Ok(list.len()) && back == list);
+    }
+    store(&bytes, buffer, place)
+}

@@ -1,0 +1,47 @@
+//! Document 01's listing, and the inputs that the repository holds for it.
+//!
+//!   listing   the text for an input
+//!   input     an input by its name
+
+use crate::blocks::{meaning, parts, Step, MOST};
+use crate::numbers::{Rule, NOT_SHORTEST, OVERFLOW, TOO_LONG};
+use crate::random::Random;
+
+/// "The last column is the number, or else the length. Rule: unsigned."
+pub fn listing(input: &[u8]) -> String {
+    if input.len() > MOST {
+        return format!("refused {TOO_LONG}\n");
+    }
+    let mut text = "place what value\n".to_string();
+    for part in parts(input) {
+        let (what, value) = match meaning(Rule::U64, part.bytes) {
+            Step::Number(v, _) => ("number", v),
+            Step::Gap(NOT_SHORTEST, count) => ("not-shortest", count as i128),
+            Step::Gap(OVERFLOW, count) => ("overflow", count as i128),
+            Step::Tail(count) => ("tail", count as i128),
+            Step::Gap(..) | Step::Finished => unreachable!(),
+        };
+        text += &format!("{} {what} {value}\n", part.place);
+    }
+    text
+}
+
+pub fn input(name: &str) -> Option<Vec<u8>> {
+    let at_3 =
+        |bytes: &[u8]| [&[0x00, 0x80, 0x01], bytes, &[0xff; 9], &[0x02, 0x05, 0x83]].concat();
+    Some(match name {
+        "document" => at_3(&[0x80, 0x00]),
+        "mended" => at_3(&[0x07]),
+        "empty" => Vec::new(),
+        "tail" => vec![0x80; 12],
+        "limit" => mix(MOST),
+        "above" => mix(MOST + 1),
+        "long" => mix(100_000),
+        _ => return None,
+    })
+}
+
+/// Groups and gaps of every kind, from a fixed seed.
+fn mix(count: usize) -> Vec<u8> {
+    Random(3).block(count)
+}
