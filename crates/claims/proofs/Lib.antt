@@ -5,6 +5,7 @@ mod Trips
 mod Spelled
 mod Sources
 mod Damage
+mod Cuts
 mod Stepped
 mod Settled
 mod Turned

@@ -5,7 +5,7 @@
 --   TailAt s p      a tail begins at the start p
 --   StepRows        each answer of a step exactly when its row holds
 --   SetDownRows     each answer of a set-down exactly when
---   Front, Back     demand 3: a stretch x of the block a ++ x ++ b is replaced by y
+--   Front, Back     demand 3: a stretch x of the block a ++ x ++ b is replaced by y; FrontListed, BackListed as lists
 --   TurnRows        each meaning of a turn exactly when
 use Prim.Native.Nat.{ℕ, _+_, _-_, _≤_, _<_}
 use mathlib.Core.Path.{_≡_}
@@ -25,6 +25,7 @@ use Rattle.blocks.specs.declared.SetDown.{SetDown}
 use Rattle.blocks.specs.declared.SetDown.the-variants as D
 use Rattle.turns.specs.declared.Turn.{Turn}
 use Rattle.turns.specs.declared.Turn.the-variants.{Tighten, Loosen, Hold}
+use Rattle.claims.specs.Listed.{listed, ending, since}
 
 pub record Start (s : List ℕ) (p : ℕ) : Type 0 where
   pub here : p ≤ length s
@@ -66,6 +67,15 @@ Front = (a x y b : List ℕ) (p : ℕ) (g : List ℕ) → p + length g ≤ lengt
 abbrev pub Back : Type 0
 Back = (a x y b : List ℕ) (p p′ : ℕ) (g : List ℕ) → length (a ++ x) + run b < p → p′ + length x ≡ p + length y
     → GroupAt (a ++ x ++ b) p g ↔ GroupAt (a ++ y ++ b) p′ g
+
+-- The same as lists of the groups with their places: those that end before the stretch, and those that begin after the first byte below
+-- 128 past it, counted from there.
+abbrev pub FrontListed : Type 0
+FrontListed = (a x y b : List ℕ) → ending (length a) (listed (a ++ x ++ b)) ≡ ending (length a) (listed (a ++ y ++ b))
+
+abbrev pub BackListed : Type 0
+BackListed = (a x y b : List ℕ)
+    → since (length (a ++ x) + run b + 1) (listed (a ++ x ++ b)) ≡ since (length (a ++ y) + run b + 1) (listed (a ++ y ++ b))
 
 -- What a turn means: above zero is Tighten, below zero is Loosen, zero is Hold.
 pub record TurnRows (v : ℤ) (r : Turn) : Type 0 where

@@ -42,7 +42,7 @@ use Rattle.lists.specs.Promise.{ReadsStrict, WritesList}
 use Rattle.lists.specs.declared.ReadList.{ReadList}
 use Rattle.turns.specs.Turns.{Means}
 use Rattle.turns.specs.declared.Turn.{Turn}
-use Rattle.claims.specs.Blocks.{StepRows, SetDownRows, Front, Back, TurnRows}
+use Rattle.claims.specs.Blocks.{StepRows, SetDownRows, Front, Back, FrontListed, BackListed, TurnRows}
 use Rattle.claims.specs.Table.{Row}
 use Rattle.claims.specs.Source.{spec-parse, spec-serialize-helper}
 use Rattle.claims.specs.Try.{Starred}
@@ -211,6 +211,8 @@ pub record Claims : Type 0 where
   pub set-down-rows : (s : List ℕ) (p : ℕ) (r : SetDown) → SetsDown s p r → SetDownRows s p r
   pub damage-front : Front
   pub damage-back : Back
+  pub damage-front-listed : FrontListed
+  pub damage-back-listed : BackListed
   pub one-step : (rule : Rule) (s : List ℕ) (p : ℕ) (r r′ : Step) → Steps rule s p r → Steps rule s p r′ → r ≡ r′
   pub one-set-down : (s : List ℕ) (p : ℕ) (r r′ : SetDown) → SetsDown s p r → SetsDown s p r′ → r ≡ r′
   -- lists

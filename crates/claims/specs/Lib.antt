@@ -3,5 +3,6 @@ pub mod Writers
 pub mod Table
 pub mod Source
 pub mod Try
+pub mod Listed
 pub mod Blocks
 pub mod Claims

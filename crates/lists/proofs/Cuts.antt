@@ -15,11 +15,11 @@ use Rattle.uleb128.specs.Unsigned.{u64}
 use Rattle.blocks.specs.Cut.{Cut, alone, infront, cut}
 use Rattle.lists.specs.Lists.{joined, numbersOf, numbers}
 
-cut-low : (b : ℕ) (l : List ℕ) → b < 128 → cut (b ∷ l) ≡ alone b (cut l)
+pub cut-low : (b : ℕ) (l : List ℕ) → b < 128 → cut (b ∷ l) ≡ alone b (cut l)
 unfolding cut
 cut-low b l h = rw (lt-ltb b 128 h)
 
-cut-high : (b : ℕ) (l : List ℕ) → 128 ≤ b → cut (b ∷ l) ≡ infront b (cut l .groups) (cut l .tail)
+pub cut-high : (b : ℕ) (l : List ℕ) → 128 ≤ b → cut (b ∷ l) ≡ infront b (cut l .groups) (cut l .tail)
 unfolding cut
 cut-high b l h = rw (le-ltb b 128 h)
 
