@@ -15,7 +15,7 @@ ghost use Rattle.blocks.specs.Inner.{GroupAt, SaysBy};
 ghost use Rattle.blocks.specs.Promise.{Steps, SetsDown};
 
 // The most bytes of a block.
-const BLOCK_LIMIT: usize = 4096;
+pub const BLOCK_LIMIT: usize = 4096;
 
 // The rule by which a group's bytes are read.
 pub enum Rule {

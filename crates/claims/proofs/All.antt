@@ -25,6 +25,7 @@ use Rattle.claims.proofs.Spelled.{two-sentences, twos-complement, signe
 use Rattle.claims.proofs.Sources.{parse-same, serialize-same}
 use Rattle.claims.proofs.Same.{same-step, same-set, same-list, same-written}
 use Rattle.claims.proofs.Damage.{front, back}
+use Rattle.claims.proofs.Lists.{list-back}
 use Rattle.claims.proofs.Cuts.{front-listed, back-listed}
 use Rattle.claims.proofs.Stepped.{step-rows}
 use Rattle.claims.proofs.Settled.{set-down-rows}
@@ -102,6 +103,7 @@ all = record {
   one-step = λ rule s p r r′ a b. same-step r r′ (a .is ∙ sym (b .is));
   one-set-down = λ s p r r′ a b. same-set r r′ (a .is ∙ sym (b .is));
   writes-list = writes-list;
+  list-back = list-back;
   one-strict = λ s old r r′ out out′ a b. (same-list r r′ (a .answer ∙ sym (b .answer)), a .leaves ∙ sym (b .leaves));
   one-list = λ ns s at r r′ out out′ a b. (same-written r r′ (a .answer ∙ sym (b .answer)), a .leaves ∙ sym (b .leaves));
   turn-rows = turn-rows;

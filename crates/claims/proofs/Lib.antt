@@ -6,6 +6,7 @@ mod Spelled
 mod Sources
 mod Damage
 mod Cuts
+mod Lists
 mod Stepped
 mod Settled
 mod Turned

@@ -33,6 +33,7 @@ use Rattle.uleb128.specs.declared.reading.ReadU64.{ReadU64}
 use Rattle.sleb128.specs.Signed as signed
 use Rattle.claims.specs.Readers.{Reader, loop64, recursive64, unsigned32, signed64, Value, Reply, number, refuse, Promised, width, form, OfWidth}
 use Rattle.claims.specs.Writers.{Laying, Length}
+use Rattle.blocks.specs.Block.{block-limit}
 use Rattle.blocks.specs.Promise.{Steps, SetsDown}
 use Rattle.blocks.specs.declared.Rule.{Rule}
 use Rattle.blocks.specs.declared.SetDown.{SetDown}
@@ -40,6 +41,7 @@ use Rattle.blocks.specs.declared.Step.{Step}
 use Rattle.lists.specs.Lists.{list-limit, forms}
 use Rattle.lists.specs.Promise.{ReadsStrict, WritesList}
 use Rattle.lists.specs.declared.ReadList.{ReadList}
+use Rattle.lists.specs.declared.ReadList.the-variants as L
 use Rattle.turns.specs.Turns.{Means}
 use Rattle.turns.specs.declared.Turn.{Turn}
 use Rattle.claims.specs.Blocks.{StepRows, SetDownRows, Front, Back, FrontListed, BackListed, TurnRows}
@@ -86,6 +88,17 @@ abbrev pub WritesLists : Type 0
 WritesLists = (ns before : List ℕ) (at : ℕ) (r : Written) (after : List ℕ) → WritesList ns before at r after →
     ((list-limit < length ns) ↔ ((r ≡ W.Refused TooLong) × (after ≡ before)))
     × (length ns ≤ list-limit → LaysExactly (forms ns) before at r after)
+
+-- Strict reading of what list writing wrote gives the list back, if that is within the block limit and the answer slice holds it.
+abbrev pub Words : List ℕ → Type 0
+Words [] = Unit {0}
+Words (v ∷ ns) = (v < 2 ^ 64) × Words ns
+
+abbrev pub ListBack : Type 0
+ListBack = (ns before : List ℕ) (at : ℕ) (n : Count) (after old : List ℕ) (r : ReadList) (out : List ℕ)
+    → Words ns → WritesList ns before at (W.Bytes n) after → n .0 ≤ block-limit → length ns ≤ length old
+    → ReadsStrict (take (n .0) (drop at after)) old r out
+    → (r ≡ L.Filled (record { 0 = length ns })) × (out ≡ ns ++ drop (length ns) old)
 
 -- 4. The shortest unsigned form: one byte v if v < 128, else (v mod 128) + 128 followed by the form of v div 128.
 abbrev pub Shortest : Type 0
@@ -217,6 +230,7 @@ pub record Claims : Type 0 where
   pub one-set-down : (s : List ℕ) (p : ℕ) (r r′ : SetDown) → SetsDown s p r → SetsDown s p r′ → r ≡ r′
   -- lists
   pub writes-list : WritesLists
+  pub list-back : ListBack
   pub one-strict : (s old : List ℕ) (r r′ : ReadList) (out out′ : List ℕ) → ReadsStrict s old r out → ReadsStrict s old r′ out′ → (r ≡ r′) × (out ≡ out′)
   pub one-list : (ns s : List ℕ) (at : ℕ) (r r′ : Written) (out out′ : List ℕ) → WritesList ns s at r out → WritesList ns s at r′ out′
       → (r ≡ r′) × (out ≡ out′)

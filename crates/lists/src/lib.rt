@@ -1,4 +1,5 @@
 // Lists of unsigned numbers: strict reading of a whole block, and writing a list's forms one after another.
+use blocks::BLOCK_LIMIT;
 use blocks::Cursor;
 use blocks::Rule;
 use blocks::Step;
@@ -17,9 +18,6 @@ ghost use Rattle.blocks.specs.Block.{block-limit};
 ghost use Rattle.lists.specs.Lists.{list-limit, forms};
 ghost use Rattle.lists.specs.Inner.{StartsBefore, Passes, Scans, Fits};
 ghost use Rattle.lists.specs.Promise.{ReadsStrict, WritesList};
-
-// The most bytes of a block.
-const BLOCK_LIMIT: usize = 4096;
 
 // The most numbers of a list.
 const LIST_LIMIT: usize = 4096;
