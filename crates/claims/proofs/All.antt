@@ -26,7 +26,7 @@ use Rattle.claims.proofs.Sources.{parse-same, serialize-same}
 use Rattle.claims.proofs.Same.{same-step, same-set, same-list, same-written}
 use Rattle.claims.proofs.Damage.{front, back}
 use Rattle.claims.proofs.Lists.{list-back}
-use Rattle.claims.proofs.Cuts.{front-listed, back-listed}
+use Rattle.claims.proofs.Cuts.{front-listed, back-listed, from-start}
 use Rattle.claims.proofs.Stepped.{step-rows}
 use Rattle.claims.proofs.Settled.{set-down-rows}
 use Rattle.claims.proofs.Turned.{turn-rows}
@@ -100,6 +100,7 @@ all = record {
   damage-back = back;
   damage-front-listed = front-listed;
   damage-back-listed = back-listed;
+  from-start = from-start;
   one-step = λ rule s p r r′ a b. same-step r r′ (a .is ∙ sym (b .is));
   one-set-down = λ s p r r′ a b. same-set r r′ (a .is ∙ sym (b .is));
   writes-list = writes-list;

@@ -2,16 +2,17 @@
 use Prim.Native.Nat.{ℕ, suc, _+_, _-_, _≤_, _<_}
 use mathlib.Core.Path.{_≡_, refl, ap, sym, _∙_}
 use mathlib.Core.List.{List, [], _∷_, _++_, append-assoc}
+use mathlib.Core.Logic.{⊎-elim}
 use native.Mathlib.Omega.{arith}
 use borrow.Author.Tests.{le-leb, lt-leb}
-use lib.ListN.{length, take, drop, length-append}
-use lib.Seq.{length-take-le, drop-append-add, drop-length, drop-drop}
+use lib.ListN.{length, getD, take, drop, length-append, take-append-drop}
+use lib.Seq.{length-take-le, drop-append-add, drop-length, drop-drop, getD-drop}
 use Rattle.words.proofs.Cases.{by-order}
 use Rattle.groups.specs.Group.{run}
-use Rattle.groups.proofs.Run.{run-high, run-within}
+use Rattle.groups.proofs.Run.{run-high, run-within, run-ends}
 use Rattle.blocks.specs.Cut.{Cut, infront, cut}
 use Rattle.lists.proofs.Cuts.{cut-low, cut-high, cut-group, cut-tail}
-use Rattle.claims.specs.Blocks.{FrontListed, BackListed}
+use Rattle.claims.specs.Blocks.{FrontListed, BackListed, FromStart}
 use Rattle.claims.specs.Listed.{placed, listed, ending, since}
 
 -- a byte of 128 or more in front of the first group, if there is one
@@ -179,3 +180,18 @@ front-listed a x y b = within x ∙ sym (within y)
 
 pub back-listed : BackListed
 back-listed a x y b = begins-behind (a ++ x) b ∙ sym (begins-behind (a ++ y) b)
+
+pub from-start : FromStart
+from-start s p k =
+    ⊎-elim (λ (e : p ≡ 0). rw e (counted 0 0 (cut s .groups)))
+    (λ (h : (0 < p) × (getD s (p - 1) 0 < 128)).
+    let a = take (p - 1) s in
+    let b = drop (p - 1) s in
+    let i : p - 1 + 0 ≡ p - 1 = omega arith in
+    let none : run b ≡ 0 = run-ends b 0 (omega arith) (rw (getD-drop (p - 1) s 0 0, i) (h .1)) in
+    let n : length a + run b + 1 ≡ p = omega (arith, none, length-take-le (p - 1) s (omega (arith, k .here)), h .0) in
+    let m : p - 1 + (run b + 1) ≡ p = omega (arith, none, h .0) in
+    ap (λ (i : ℕ). since i (listed s)) (sym n)
+    ∙ ap (λ (l : List ℕ). since (length a + run b + 1) (listed l)) (sym (take-append-drop (p - 1) s))
+    ∙ begins-behind a b ∙ ap listed (drop-drop (run b + 1) (p - 1) s ∙ ap (λ (i : ℕ). drop i s) m))
+    (k .behind)

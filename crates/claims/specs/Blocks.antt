@@ -77,6 +77,10 @@ abbrev pub BackListed : Type 0
 BackListed = (a x y b : List ℕ)
     → since (length (a ++ x) + run b + 1) (listed (a ++ x ++ b)) ≡ since (length (a ++ y) + run b + 1) (listed (a ++ y ++ b))
 
+-- The groups that begin at a start or later, counted from there, are those of the block from there on.
+abbrev pub FromStart : Type 0
+FromStart = (s : List ℕ) (p : ℕ) → Start s p → since p (listed s) ≡ listed (drop p s)
+
 -- What a turn means: above zero is Tighten, below zero is Loosen, zero is Hold.
 pub record TurnRows (v : ℤ) (r : Turn) : Type 0 where
   pub tighten : (r ≡ Tighten) ↔ (pos 0 <ℤ v)
