@@ -8,6 +8,7 @@ mod Damage
 mod Cuts
 mod Lists
 mod Stepped
+mod Goes
 mod Settled
 mod Turned
 pub mod All

@@ -6,18 +6,21 @@
 --   StepRows        each answer of a step exactly when its row holds
 --   SetDownRows     each answer of a set-down exactly when
 --   Front, Back     demand 3: a stretch x of the block a ++ x ++ b is replaced by y; FrontListed, BackListed as lists
+--   FromStart       the groups from a start on
+--   Goes, Said      a reader's answers, step after step; that they are what these groups say
+--   ReaderFrom      a reader from a start gives exactly the groups from there on
 --   TurnRows        each meaning of a turn exactly when
 use Prim.Native.Nat.{ℕ, _+_, _-_, _≤_, _<_}
 use mathlib.Core.Path.{_≡_}
-use mathlib.Core.List.{List, _++_}
+use mathlib.Core.List.{List, [], _∷_, _++_}
 use mathlib.Core.Logic.{_↔_, _⊎_}
 use lib.IntN.{ℤ, pos}
 use lib.ListN.{length, getD, take, drop}
 use lib.Signed.{_<ℤ_}
 use Rattle.words.specs.declared.Refusal.the-variants.{Place, TooLong, NoStart}
-use Rattle.groups.specs.Group.{High, Group, run}
-use Rattle.blocks.specs.Block.{block-limit, tail, finished, refuses, saysBy}
-use Rattle.blocks.specs.Promise.{meaning}
+use Rattle.groups.specs.Group.{Bytes, High, Group, run}
+use Rattle.blocks.specs.Block.{block-limit, Stepped, number, gap, tail, finished, refuses, saysBy}
+use Rattle.blocks.specs.Promise.{meaning, Steps}
 use Rattle.blocks.specs.declared.Cursor.{Cursor}
 use Rattle.blocks.specs.declared.Rule.{Rule}
 use Rattle.blocks.specs.declared.Step.{Step}
@@ -80,6 +83,38 @@ BackListed = (a x y b : List ℕ)
 -- The groups that begin at a start or later, counted from there, are those of the block from there on.
 abbrev pub FromStart : Type 0
 FromStart = (s : List ℕ) (p : ℕ) → Start s p → since p (listed s) ≡ listed (drop p s)
+
+-- A reader's answers from the place p on, step after step, each by a rule of its own, until a step says Tail or Finished.
+abbrev pub Ended : Stepped → Type 0
+Ended (number v n p) = ⊥
+Ended (gap k n p) = ⊥
+Ended (tail n p) = Unit {0}
+Ended (finished p) = Unit {0}
+Ended (refuses k) = ⊥
+
+abbrev pub Moved : Stepped → ℕ → Type 0
+Moved (number v n p) q = p ≡ q
+Moved (gap k n p) q = p ≡ q
+Moved (tail n p) q = ⊥
+Moved (finished p) q = ⊥
+Moved (refuses k) q = ⊥
+
+pub data Goes (s : List ℕ) : ℕ → List (Rule × Step) → Type 0 where
+  stops : (rule : Rule) (p : ℕ) (r : Step) → Steps rule s p r → Ended (meaning r) → Goes s p []
+  moves : (rule : Rule) (p q : ℕ) (r : Step) (l : List (Rule × Step))
+      → Steps rule s p r → Moved (meaning r) q → Goes s q l → Goes s p ((rule, r) ∷ l)
+
+-- The answers are, one for one, what the groups say by the rules, the groups' places counted from p.
+abbrev pub Said : ℕ → List (Rule × Step) → List (ℕ × List ℕ) → Type 0
+Said p [] [] = Unit {0}
+Said p [] (k ∷ ks) = ⊥
+Said p (a ∷ l) [] = ⊥
+Said p (a ∷ l) (k ∷ ks) = (meaning (a .1) ≡ saysBy (a .0) (k .1) (p + k .0)) × Said p l ks
+
+-- From a start, a reader gives exactly the groups that begin there or later, in order, each once.
+abbrev pub ReaderFrom : Type 0
+ReaderFrom = (s : List ℕ) (p : ℕ) (l : List (Rule × Step)) → Bytes s → length s ≤ block-limit → Start s p → Goes s p l
+    → Said p l (since p (listed s))
 
 -- What a turn means: above zero is Tighten, below zero is Loosen, zero is Hold.
 pub record TurnRows (v : ℤ) (r : Turn) : Type 0 where
