@@ -25,7 +25,7 @@ use Rattle.claims.proofs.Spelled.{two-sentences, twos-complement, signe
 use Rattle.claims.proofs.Sources.{parse-same, serialize-same}
 use Rattle.claims.proofs.Same.{same-step, same-set, same-list, same-written}
 use Rattle.claims.proofs.Damage.{front, back}
-use Rattle.claims.proofs.Goes.{reader-from}
+use Rattle.claims.proofs.Goes.{reader-from, reader-set-down, front-lost}
 use Rattle.claims.proofs.Lists.{list-back}
 use Rattle.claims.proofs.Cuts.{front-listed, back-listed, from-start}
 use Rattle.claims.proofs.Stepped.{step-rows}
@@ -103,6 +103,8 @@ all = record {
   damage-back-listed = back-listed;
   from-start = from-start;
   reader-from = reader-from;
+  reader-set-down = reader-set-down;
+  front-lost = front-lost;
   one-step = λ rule s p r r′ a b. same-step r r′ (a .is ∙ sym (b .is));
   one-set-down = λ s p r r′ a b. same-set r r′ (a .is ∙ sym (b .is));
   writes-list = writes-list;

@@ -142,35 +142,39 @@ counted n p (g ∷ gs) =
     let m : n + p - n ≡ p = omega arith in
     rw (le-leb n (n + p) (omega arith), e, m, counted n (p + length g) gs)
 
--- the groups that begin behind the first byte below 128 of b are those of the rest of b
-begins-behind : (a b : List ℕ) → since (length a + run b + 1) (listed (a ++ b)) ≡ listed (drop (run b + 1) b)
+pub nothing-left : (b : List ℕ) → length b ≤ run b → drop (run b + 1) b ≡ []
+nothing-left b h =
+    let all : run b ≡ length b = omega (arith, run-within b) in
+    sym (drop-drop 1 (run b) b) ∙ ap (drop 1) (ap (λ (i : ℕ). drop i b) all ∙ drop-length b)
+
+-- the groups that begin behind a, at n or later, are those behind the first byte below 128 of b
+pub begins-from : (a b : List ℕ) (n m : ℕ) → length a < n → n + m ≡ length a + run b + 1
+    → since n (listed (a ++ b)) ≡ placed m (cut (drop (run b + 1) b) .groups)
 unfolding cut
-begins-behind a b =
+begins-from a b n m behind there =
     ap (λ (gs : List (List ℕ)). since n (placed 0 gs)) (cut-append a b)
     ∙ skipped n 0 (cut a .groups) (cut (t ++ b) .groups) (omega (arith, all-bytes a))
     ∙ by-order (run b) (length b) some-low none-low
   where
-    n : ℕ
-    n = length a + run b + 1
-
     t : List ℕ
     t = cut a .tail
 
-    some-low : run b < length b → since n (placed (0 + total (cut a .groups)) (cut (t ++ b) .groups)) ≡ listed (drop (run b + 1) b)
+    some-low : run b < length b → since n (placed (0 + total (cut a .groups)) (cut (t ++ b) .groups)) ≡ placed m (cut (drop (run b + 1) b) .groups)
     some-low h =
         let r : run (t ++ b) < length (t ++ b) = rw length-append (omega (arith, tail-run a b)) in
         let l : length (take (run (t ++ b) + 1) (t ++ b)) ≡ run (t ++ b) + 1 = length-take-le (run (t ++ b) + 1) (t ++ b) (omega arith) in
-        let e : 0 + total (cut a .groups) + length (take (run (t ++ b) + 1) (t ++ b)) ≡ n + 0 = omega (arith, l, tail-run a b, all-bytes a) in
+        let e : 0 + total (cut a .groups) + length (take (run (t ++ b) + 1) (t ++ b)) ≡ n + m = omega (arith, l, tail-run a b, all-bytes a) in
         let i : run (t ++ b) + 1 ≡ length t + (run b + 1) = omega (arith, tail-run a b) in
         let d : drop (run (t ++ b) + 1) (t ++ b) ≡ drop (run b + 1) b = rw i (drop-append-add t b (run b + 1)) in
-        rw (cut-group (t ++ b) r, lt-leb n (0 + total (cut a .groups)) (omega (arith, all-bytes a)), e, d) (counted n 0 (cut (drop (run b + 1) b) .groups))
+        rw (cut-group (t ++ b) r, lt-leb n (0 + total (cut a .groups)) (omega (arith, all-bytes a)), e, d) (counted n m (cut (drop (run b + 1) b) .groups))
 
-    none-low : length b ≤ run b → since n (placed (0 + total (cut a .groups)) (cut (t ++ b) .groups)) ≡ listed (drop (run b + 1) b)
+    none-low : length b ≤ run b → since n (placed (0 + total (cut a .groups)) (cut (t ++ b) .groups)) ≡ placed m (cut (drop (run b + 1) b) .groups)
     none-low h =
         let r : run (t ++ b) ≡ length (t ++ b) = rw length-append (omega (arith, tail-run a b, run-within b)) in
-        let all : run b ≡ length b = omega (arith, run-within b) in
-        let d : drop (run b + 1) b ≡ [] = sym (drop-drop 1 (run b) b) ∙ ap (drop 1) (ap (λ (i : ℕ). drop i b) all ∙ drop-length b) in
-        rw (cut-tail (t ++ b) r, d) refl
+        rw (cut-tail (t ++ b) r, nothing-left b h) refl
+
+begins-behind : (a b : List ℕ) → since (length a + run b + 1) (listed (a ++ b)) ≡ listed (drop (run b + 1) b)
+begins-behind a b = begins-from a b (length a + run b + 1) 0 (omega arith) (omega arith)
 
 pub front-listed : FrontListed
 front-listed a x y b = within x ∙ sym (within y)

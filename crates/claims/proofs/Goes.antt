@@ -2,11 +2,12 @@
 use Prim.Native.Nat.{ℕ, _+_, _-_, _≤_, _<_}
 use mathlib.Core.Path.{_≡_, refl, ap, sym, _∙_, subst}
 use mathlib.Core.List.{List, [], _∷_}
-use mathlib.Core.Logic.{inr}
+use mathlib.Core.Logic.{inl, inr, ⊎-elim}
 use native.Mathlib.Omega.{arith}
-use lib.ListN.{length, take, drop, length-drop}
+use lib.ListN.{length, getD, take, drop, length-drop, take-append-drop}
 use lib.Seq.{length-take-le, drop-drop, getD-drop}
 use Rattle.words.specs.Answer.{Answer, gives, refused}
+use Rattle.words.specs.declared.Refusal.the-variants.{NoStart}
 use Rattle.words.proofs.Cases.{by-order}
 use Rattle.groups.specs.Group.{Bytes, Group, run}
 use Rattle.groups.specs.Width.{reading}
@@ -21,11 +22,13 @@ use Rattle.blocks.specs.Cut.{cut}
 use Rattle.blocks.specs.declared.Rule.{Rule}
 use Rattle.blocks.specs.declared.Rule.the-variants.{Unsigned, Signed}
 use Rattle.blocks.specs.declared.Step.{Step}
+use Rattle.blocks.specs.declared.SetDown.the-variants as D
 use Rattle.lists.proofs.Cuts.{cut-group, cut-tail}
-use Rattle.claims.specs.Listed.{placed}
-use Rattle.claims.specs.Blocks.{Start, GroupAt, TailAt, Ended, Moved, Goes, stops, moves, Said, ReaderFrom}
+use Rattle.claims.specs.Listed.{placed, listed, since}
+use Rattle.claims.specs.Blocks.{Start, GroupAt, TailAt, Ended, Moved, Goes, stops, moves, Said, ReaderFrom, ReaderSetDown, FrontLost}
 use Rattle.claims.proofs.Stepped.{step-rows}
-use Rattle.claims.proofs.Cuts.{from-start}
+use Rattle.claims.proofs.Cuts.{from-start, begins-from, nothing-left}
+use Rattle.claims.proofs.Settled.{set-down-rows, not-before, start-there}
 
 -- what a group says moves the cursor past it, and does not end the reading
 past-count : {A : Type 0} (f : A → Val) (a : Answer (A × ℕ)) (n p q : ℕ) → ((v : A) (m : ℕ) → a ≡ gives (v, m) → m ≡ n)
@@ -110,3 +113,73 @@ pub reader-from : ReaderFrom
 reader-from s p l bytes short k go =
     let z : p + 0 ≡ p = omega arith in
     rw (from-start s p k) (shifted p 0 l (cut (drop p s) .groups) (rw z (reads s bytes short p l k go)))
+
+-- the groups that begin at p or later begin at the least start there or behind it
+settled-groups : (s : List ℕ) (p c : ℕ) → p ≤ c → Start s c → ((q : ℕ) → p ≤ q → q < c → Start s q → ⊥)
+    → since p (listed s) ≡ placed (c - p) (cut (drop c s) .groups)
+settled-groups s p c h k least =
+    by-order 0 p
+    (λ some.
+    let b = drop (p - 1) s in
+    let low = not-before s p (omega arith) c h k in
+    let there = start-there s p (omega arith) (omega (arith, low, k .here)) in
+    let e : c ≡ p + run b = by-order (p + run b) c (λ l. absurd (least (p + run b) (omega arith) l there)) (λ l. omega (arith, low)) in
+    let t : length (take (p - 1) s) ≡ p - 1 = length-take-le (p - 1) s (omega (arith, k .here)) in
+    let j : p - 1 + (run b + 1) ≡ c = omega (arith, e) in
+    let d : drop (run b + 1) b ≡ drop c s = drop-drop (run b + 1) (p - 1) s ∙ ap (λ (i : ℕ). drop i s) j in
+    let m : run b ≡ c - p = omega (arith, e) in
+    ap (λ (l : List ℕ). since p (listed l)) (sym (take-append-drop (p - 1) s))
+    ∙ begins-from (take (p - 1) s) b p (run b) (omega (arith, t)) (omega (arith, t))
+    ∙ rw (d, m))
+    (λ none.
+    let front : Start s 0 = record { here = omega arith; behind = inl refl } in
+    let e : c ≡ 0 = by-order 0 c (λ l. absurd (least 0 (omega arith) l front)) (λ l. omega arith) in
+    let z : p ≡ 0 = omega arith in
+    rw (e, z) (from-start s 0 front))
+
+no-groups : (s : List ℕ) (p : ℕ) → p ≤ length s → ((q : ℕ) → p ≤ q → Start s q → ⊥) → since p (listed s) ≡ []
+unfolding cut
+no-groups s p h none =
+    by-order 0 p
+    (λ some.
+    let b = drop (p - 1) s in
+    let t : length (take (p - 1) s) ≡ p - 1 = length-take-le (p - 1) s (omega arith) in
+    let all : length b ≤ run b =
+    by-order (run b) (length b) (λ l. absurd (none (p + run b) (omega arith) (start-there s p (omega arith) (omega (arith, length-drop (p - 1) s)))))
+    (λ l. l) in
+    ap (λ (l : List ℕ). since p (listed l)) (sym (take-append-drop (p - 1) s))
+    ∙ begins-from (take (p - 1) s) b p (run b) (omega (arith, t)) (omega (arith, t))
+    ∙ rw (nothing-left b all) refl)
+    (λ z. absurd (none p (omega arith) (record { here = h; behind = inl (omega arith) })))
+
+pub reader-set-down : ReaderSetDown
+reader-set-down s p bytes = (
+  λ c l a go.
+      let w = set-down-rows s p (D.At c) a .least c .0 refl in
+      let q = c .place .0 in
+      let e : p + (q - p) ≡ q = omega (arith, w .1) in
+      rw (settled-groups s p q (w .1) (w .2) (w .3)) (shifted p (q - p) l (cut (drop q s) .groups) (rw e (reads s bytes (w .0) q l (w .2) go))),
+  λ a. let w = set-down-rows s p (D.Refused NoStart) a .none .0 refl in no-groups s p (w .1) (w .2),
+)
+
+-- a start behind place 0 of what is left is a start of the whole
+start-behind : (o : List ℕ) (k q : ℕ) → 0 < q → Start (drop k o) q → Start o (k + q)
+start-behind o k q some st = record {
+  here = omega (arith, st .here, length-drop k o);
+  behind = inr (
+    omega arith,
+    ⊎-elim (λ (e : q ≡ 0). absurd (omega arith))
+        (λ (b : (0 < q) × (getD (drop k o) (q - 1) 0 < 128)). let i : k + q - 1 ≡ k + (q - 1) = omega arith in rw (i, ← (getD-drop k o (q - 1) 0)) (b .1))
+        (st .behind),
+  );
+}
+
+pub front-lost : FrontLost
+front-lost o k c l bytes a go =
+    let s = drop k o in
+    let q = c .place .0 in
+    let w = set-down-rows s 1 (D.At c) a .least c .0 refl in
+    let b : Bytes s = λ i. rw (getD-drop k o i 0) (bytes (k + i)) in
+    let e : since q (listed s) ≡ since (k + q) (listed o) =
+    from-start s q (w .2) ∙ ap listed (drop-drop q k o) ∙ sym (from-start o (k + q) (start-behind o k q (w .1) (w .2))) in
+    subst (Said q l) e (reader-from s q l b (w .0) (w .2) go)

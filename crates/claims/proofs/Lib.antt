@@ -8,7 +8,7 @@ mod Damage
 mod Cuts
 mod Lists
 mod Stepped
-mod Goes
 mod Settled
+mod Goes
 mod Turned
 pub mod All

@@ -28,7 +28,7 @@ module _ (s : List ℕ) (p : ℕ) (some : 1 ≤ p) where
   byte-of : (j : ℕ) → p ≤ j → getD (drop (p - 1) s) (j - p) 0 ≡ getD s (j - 1) 0
   byte-of j h = let i : p - 1 + (j - p) ≡ j - 1 = omega arith in getD-drop (p - 1) s (j - p) 0 ∙ ap (λ (k : ℕ). getD s k 0) i
 
-  not-before : (j : ℕ) → p ≤ j → Start s j → p + run (drop (p - 1) s) ≤ j
+  pub not-before : (j : ℕ) → p ≤ j → Start s j → p + run (drop (p - 1) s) ≤ j
   not-before j h k =
       ⊎-elim (λ (e : j ≡ 0). absurd (omega arith))
       (λ (b : (0 < j) × (getD s (j - 1) 0 < 128)).
@@ -39,7 +39,7 @@ module _ (s : List ℕ) (p : ℕ) (some : 1 ≤ p) where
       (λ l. omega arith))
       (k .behind)
 
-  start-there : p - 1 + run (drop (p - 1) s) < length s → Start s (p + run (drop (p - 1) s))
+  pub start-there : p - 1 + run (drop (p - 1) s) < length s → Start s (p + run (drop (p - 1) s))
   start-there h =
       let q = p + run (drop (p - 1) s) in
       let b : getD (drop (p - 1) s) (run (drop (p - 1) s)) 0 < 128 = at-run (drop (p - 1) s) (omega (arith, length-drop (p - 1) s)) in

@@ -8,7 +8,8 @@
 --   Front, Back     demand 3: a stretch x of the block a ++ x ++ b is replaced by y; FrontListed, BackListed as lists
 --   FromStart       the groups from a start on
 --   Goes, Said      a reader's answers, step after step; that they are what these groups say
---   ReaderFrom      a reader from a start gives exactly the groups from there on
+--   ReaderFrom      a reader from a start gives exactly the groups from there on; ReaderSetDown: from any place, set down
+--   FrontLost       a reader of a copy whose front is lost
 --   TurnRows        each meaning of a turn exactly when
 use Prim.Native.Nat.{ℕ, _+_, _-_, _≤_, _<_}
 use mathlib.Core.Path.{_≡_}
@@ -20,7 +21,7 @@ use lib.Signed.{_<ℤ_}
 use Rattle.words.specs.declared.Refusal.the-variants.{Place, TooLong, NoStart}
 use Rattle.groups.specs.Group.{Bytes, High, Group, run}
 use Rattle.blocks.specs.Block.{block-limit, Stepped, number, gap, tail, finished, refuses, saysBy}
-use Rattle.blocks.specs.Promise.{meaning, Steps}
+use Rattle.blocks.specs.Promise.{meaning, Steps, SetsDown}
 use Rattle.blocks.specs.declared.Cursor.{Cursor}
 use Rattle.blocks.specs.declared.Rule.{Rule}
 use Rattle.blocks.specs.declared.Step.{Step}
@@ -115,6 +116,19 @@ Said p (a ∷ l) (k ∷ ks) = (meaning (a .1) ≡ saysBy (a .0) (k .1) (p + k .0
 abbrev pub ReaderFrom : Type 0
 ReaderFrom = (s : List ℕ) (p : ℕ) (l : List (Rule × Step)) → Bytes s → length s ≤ block-limit → Start s p → Goes s p l
     → Said p l (since p (listed s))
+
+-- Set down at any place, a reader gives exactly the groups that begin there or later; where there is no start, no group begins there or later.
+abbrev pub ReaderSetDown : Type 0
+ReaderSetDown = (s : List ℕ) (p : ℕ) → Bytes s →
+    ((c : Cursor) (l : List (Rule × Step)) → SetsDown s p (D.At c) → Goes s (c .place .0) l → Said p l (since p (listed s)))
+    × (SetsDown s p (D.Refused NoStart) → since p (listed s) ≡ [])
+
+-- A copy whose front is lost: set down at its place 1, a reader gives exactly the original's groups that begin at k and that start or later,
+-- their places less k.
+abbrev pub FrontLost : Type 0
+FrontLost = (original : List ℕ) (k : ℕ) (c : Cursor) (l : List (Rule × Step)) → Bytes original
+    → SetsDown (drop k original) 1 (D.At c) → Goes (drop k original) (c .place .0) l
+    → Said (c .place .0) l (since (k + c .place .0) (listed original))
 
 -- What a turn means: above zero is Tighten, below zero is Loosen, zero is Hold.
 pub record TurnRows (v : ℤ) (r : Turn) : Type 0 where

@@ -44,7 +44,7 @@ use Rattle.lists.specs.declared.ReadList.{ReadList}
 use Rattle.lists.specs.declared.ReadList.the-variants as L
 use Rattle.turns.specs.Turns.{Means}
 use Rattle.turns.specs.declared.Turn.{Turn}
-use Rattle.claims.specs.Blocks.{StepRows, SetDownRows, Front, Back, FrontListed, BackListed, FromStart, ReaderFrom, TurnRows}
+use Rattle.claims.specs.Blocks.{StepRows, SetDownRows, Front, Back, FrontListed, BackListed, FromStart, ReaderFrom, ReaderSetDown, FrontLost, TurnRows}
 use Rattle.claims.specs.Table.{Row}
 use Rattle.claims.specs.Source.{spec-parse, spec-serialize-helper}
 use Rattle.claims.specs.Try.{Starred}
@@ -228,6 +228,8 @@ pub record Claims : Type 0 where
   pub damage-back-listed : BackListed
   pub from-start : FromStart
   pub reader-from : ReaderFrom
+  pub reader-set-down : ReaderSetDown
+  pub front-lost : FrontLost
   pub one-step : (rule : Rule) (s : List ℕ) (p : ℕ) (r r′ : Step) → Steps rule s p r → Steps rule s p r′ → r ≡ r′
   pub one-set-down : (s : List ℕ) (p : ℕ) (r r′ : SetDown) → SetsDown s p r → SetsDown s p r′ → r ≡ r′
   -- lists
