@@ -24,10 +24,11 @@ use Rattle.claims.proofs.Trips.{writes, writes-list, write-read, read-w
 use Rattle.claims.proofs.Spelled.{two-sentences, twos-complement, signed-form, one-too-many, signed-most}
 use Rattle.claims.proofs.Sources.{parse-same, serialize-same}
 use Rattle.claims.proofs.Same.{same-step, same-set, same-list, same-written}
-use Rattle.claims.proofs.Damage.{front, back}
-use Rattle.claims.proofs.Goes.{reader-from, reader-set-down, front-lost}
+use Rattle.claims.proofs.Damaged.{front, back, front-read, back-read}
+use Rattle.claims.proofs.Readings.{reader-from}
+use Rattle.claims.proofs.Anywhere.{reader-set-down, front-lost}
 use Rattle.claims.proofs.Lists.{list-back}
-use Rattle.claims.proofs.Cuts.{front-listed, back-listed, from-start}
+use Rattle.claims.proofs.Strict.{strict-rows}
 use Rattle.claims.proofs.Stepped.{step-rows}
 use Rattle.claims.proofs.Settled.{set-down-rows}
 use Rattle.claims.proofs.Turned.{turn-rows}
@@ -99,14 +100,14 @@ all = record {
   set-down-rows = set-down-rows;
   damage-front = front;
   damage-back = back;
-  damage-front-listed = front-listed;
-  damage-back-listed = back-listed;
-  from-start = from-start;
+  damage-front-read = front-read;
+  damage-back-read = back-read;
   reader-from = reader-from;
   reader-set-down = reader-set-down;
   front-lost = front-lost;
   one-step = λ rule s p r r′ a b. same-step r r′ (a .is ∙ sym (b .is));
   one-set-down = λ s p r r′ a b. same-set r r′ (a .is ∙ sym (b .is));
+  strict-rows = λ s old r out bytes p. strict-rows s old r out p bytes;
   writes-list = writes-list;
   list-back = list-back;
   one-strict = λ s old r r′ out out′ a b. (same-list r r′ (a .answer ∙ sym (b .answer)), a .leaves ∙ sym (b .leaves));

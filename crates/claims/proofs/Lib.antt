@@ -5,10 +5,15 @@ mod Trips
 mod Spelled
 mod Sources
 mod Damage
-mod Cuts
+mod Listed
 mod Lists
+mod Faults
+mod Strict
 mod Stepped
+mod Answered
 mod Settled
-mod Goes
+mod Readings
+mod Anywhere
+mod Damaged
 mod Turned
 pub mod All

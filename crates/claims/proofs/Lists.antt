@@ -15,17 +15,18 @@ use Rattle.groups.specs.Group.{run}
 use Rattle.groups.specs.Width.{reading, read}
 use Rattle.groups.proofs.Standing.{reading-count}
 use Rattle.uleb128.specs.Unsigned.{form, u64}
-use Rattle.lists.specs.Lists.{list-limit, numbers, strict, filled, forms}
-use Rattle.lists.proofs.Cuts.{numbers-group, numbers-none}
+use Rattle.lists.specs.Lists.{list-limit, joined, numbers, strict, filled, forms}
+use Rattle.lists.proofs.Fronts.{numbers-group, numbers-none}
 use Rattle.lists.specs.Promise.{WritesList}
 use Rattle.lists.specs.declared.ReadList.the-variants as L
 use Rattle.claims.specs.Readers.{loop64}
-use Rattle.claims.specs.Claims.{Words, ListBack}
+use Rattle.claims.specs.Claims.{ListBack}
+use Rattle.claims.specs.Strict.{Words}
 use Rattle.claims.proofs.Same.{apart, same-list}
 use Rattle.claims.proofs.Trips.{writes-list}
 use Rattle.claims.proofs.Laws.{laws}
 
-from-front : (s : List ℕ) → read u64 s 0 ≡ reading u64 s
+pub from-front : (s : List ℕ) → read u64 s 0 ≡ reading u64 s
 unfolding read
 from-front s = rw (le-ltb (length s) 0 (omega arith))
 
@@ -39,20 +40,26 @@ read-form v rest h = sym (from-front (form v ++ rest)) ∙ laws loop64 .begun (f
   count = refl;
 })
 
-numbers-forms : (ns : List ℕ) → Words ns → numbers (forms ns) ≡ gives ns
+pub form-alone : (v : ℕ) → v < 2 ^ 64 → reading u64 (form v) ≡ gives (v, length (form v))
+form-alone v h = ap (reading u64) (sym (append-nil (form v))) ∙ read-form v [] h
+
+-- a form in front is a number in front
+pub numbers-ahead : (v : ℕ) (l : List ℕ) → v < 2 ^ 64 → numbers (form v ++ l) ≡ joined (gives (v, length (form v))) (numbers l)
+numbers-ahead v rest h =
+    let l = form v ++ rest in
+    let c : length (form v) ≡ run l + 1 = reading-count u64 l (read-form v rest h) in
+    let r : run l < length l = rw length-append (omega (arith, c)) in
+    let t : take (run l + 1) l ≡ form v = ap (λ (n : ℕ). take n l) (sym c) ∙ take-append-seam (form v) rest in
+    let d : drop (run l + 1) l ≡ rest = ap (λ (n : ℕ). drop n l) (sym c) ∙ drop-append-seam (form v) rest in
+    numbers-group l r ∙ rw (t, d, form-alone v h)
+
+pub numbers-forms : (ns : List ℕ) → Words ns → numbers (forms ns) ≡ gives ns
 unfolding forms
 numbers-forms [] h = numbers-none [] refl
-numbers-forms (v ∷ ns) h =
-    let l = form v ++ forms ns in
-    let c : length (form v) ≡ run l + 1 = reading-count u64 l (read-form v (forms ns) (h .0)) in
-    let r : run l < length l = rw length-append (omega (arith, c)) in
-    let t : take (run l + 1) l ≡ form v = ap (λ (n : ℕ). take n l) (sym c) ∙ take-append-seam (form v) (forms ns) in
-    let d : drop (run l + 1) l ≡ forms ns = ap (λ (n : ℕ). drop n l) (sym c) ∙ drop-append-seam (form v) (forms ns) in
-    let e : reading u64 (form v) ≡ gives (v, length (form v)) = ap (reading u64) (sym (append-nil (form v))) ∙ read-form v [] (h .0) in
-    numbers-group l r ∙ rw (t, d, e, numbers-forms ns (h .1))
+numbers-forms (v ∷ ns) h = numbers-ahead v (forms ns) (h .0) ∙ rw (numbers-forms ns (h .1))
 
 -- what strict reading leaves of a block without a fault, for which there is room
-strictly : (s ns old : List ℕ) → length s ≤ block-limit → numbers s ≡ gives ns → length ns ≤ length old
+pub strictly : (s ns old : List ℕ) → length s ≤ block-limit → numbers s ≡ gives ns → length ns ≤ length old
     → (strict s (length old) ≡ gives (length ns)) × (filled s old ≡ ns ++ drop (length ns) old)
 unfolding strict filled
 strictly s ns old short e room =

@@ -19,9 +19,11 @@ use Rattle.uleb128.specs.Unsigned.{u64}
 use Rattle.sleb128.specs.Signed.{i64}
 use Rattle.blocks.specs.Block.{block-limit, isStart, Val, unsigned, signed, Stepped, number, gap, tail, finished, refuses, says, saysBy, stepping}
 use Rattle.blocks.specs.Promise.{meaning, Steps}
+use Rattle.blocks.specs.declared.Value.the-variants as N
 use Rattle.blocks.specs.declared.Rule.{Rule}
 use Rattle.blocks.specs.declared.Rule.the-variants.{Unsigned, Signed}
 use Rattle.blocks.specs.declared.Step.{Step}
+use Rattle.blocks.specs.declared.Step.the-variants as S
 use Rattle.blocks.proofs.Rows.{step-too-long, step-past, step-finished, step-not-a-start, step-tail, group-says}
 use Rattle.claims.specs.Blocks.{Start, GroupAt, TailAt, StepRows}
 use Rattle.claims.proofs.Rows.{high-run, run-high}
@@ -63,7 +65,7 @@ module _ {s : List ℕ} {p : ℕ} {g : List ℕ} (k : GroupAt s p g) where
       )
 
 -- the row that a block and a place are in
-data Which (rule : Rule) (s : List ℕ) (p : ℕ) : Stepped → Type 0 where
+pub data Which (rule : Rule) (s : List ℕ) (p : ℕ) : Stepped → Type 0 where
   long : block-limit < length s → Which rule s p (refuses 7)
   past : length s ≤ block-limit → length s < p → Which rule s p (refuses 4)
   end : length s ≤ block-limit → p ≡ length s → Which rule s p (finished p)
@@ -93,7 +95,7 @@ module _ (rule : Rule) (s : List ℕ) (p : ℕ) where
       sym (group-says rule s p f (omega (arith, group-ends k)) (start-true (k .start)) (group-ends k)
       ∙ ap (λ (t : List ℕ). saysBy rule t p) (group-is k))
 
-  which : Bytes s → Which rule s p (stepping rule s p)
+  pub which : Bytes s → Which rule s p (stepping rule s p)
   which bytes =
       by-order block-limit (length s) (λ h. subst (Which rule s p) (step-too-long rule s p h .is) (long h))
       (λ f.
@@ -125,7 +127,7 @@ module _ (rule : Rule) (s : List ℕ) (p : ℕ) where
           (λ t. let n : Start s p → ⊥ = λ k. clash t (start-true k) in subst (Which rule s p) (says-middle f h n) (middle f h n))
 
 -- the kinds of answer, apart: a group says a number or a gap, and nothing else does
-kind : Stepped → ℕ
+abbrev pub kind : Stepped → ℕ
 kind (number v n p) = 0
 kind (gap k n p) = 0
 kind (tail n p) = 1
@@ -133,11 +135,10 @@ kind (finished p) = 2
 kind (refuses k) = k + 3
 
 kind-says : {A : Type 0} (f : A → Val) (a : Answer (A × ℕ)) (n p : ℕ) → kind (says f a n p) ≡ 0
-unfolding kind
 kind-says f (gives v) n p = refl
 kind-says f (refused k) n p = refl
 
-kind-group : (rule : Rule) (g : List ℕ) (p : ℕ) → kind (saysBy rule g p) ≡ 0
+pub kind-group : (rule : Rule) (g : List ℕ) (p : ℕ) → kind (saysBy rule g p) ≡ 0
 kind-group Unsigned g p = kind-says unsigned (reading u64 g) (length g) p
 kind-group Signed g p = kind-says signed (reading i64 g) (length g) p
 
@@ -150,7 +151,6 @@ record Row (s : List ℕ) (p k : ℕ) : Type 0 where
   tailed : k ≡ 1 → (length s ≤ block-limit) × TailAt s p
 
 row : {rule : Rule} {s : List ℕ} {p : ℕ} {m : Stepped} → Which rule s p m → Row s p (kind m)
-unfolding kind
 row (long h) = record { too-long = λ e. h; beyond = λ e. absurd (omega arith); not-a-start = λ e. absurd (omega arith); ended = λ e. absurd (omega arith); tailed = λ e. absurd (omega arith) }
 row (past f h) = record { too-long = λ e. absurd (omega arith); beyond = λ e. (f, h); not-a-start = λ e. absurd (omega arith); ended = λ e. absurd (omega arith); tailed = λ e. absurd (omega arith) }
 row (middle f h n) = record { too-long = λ e. absurd (omega arith); beyond = λ e. absurd (omega arith); not-a-start = λ e. (f, h, n); ended = λ e. absurd (omega arith); tailed = λ e. absurd (omega arith) }
@@ -161,7 +161,6 @@ row {rule} {s} {p} (in-group g f k) =
     (record { too-long = λ e. absurd (omega arith); beyond = λ e. absurd (omega arith); not-a-start = λ e. absurd (omega arith); ended = λ e. absurd (omega arith); tailed = λ e. absurd (omega arith) })
 
 pub step-rows : (rule : Rule) (s : List ℕ) (p : ℕ) (r : Step) → Bytes s → Steps rule s p r → StepRows rule s p r
-unfolding kind
 step-rows rule s p r bytes k =
     let w = row (which rule s p bytes) in
     let of : (m : Stepped) → meaning r ≡ m → kind (stepping rule s p) ≡ kind m = λ m e. ap kind (sym (k .is) ∙ e) in

@@ -44,7 +44,10 @@ use Rattle.lists.specs.declared.ReadList.{ReadList}
 use Rattle.lists.specs.declared.ReadList.the-variants as L
 use Rattle.turns.specs.Turns.{Means}
 use Rattle.turns.specs.declared.Turn.{Turn}
-use Rattle.claims.specs.Blocks.{StepRows, SetDownRows, Front, Back, FrontListed, BackListed, FromStart, ReaderFrom, ReaderSetDown, FrontLost, TurnRows}
+use Rattle.claims.specs.Blocks.{StepRows, SetDownRows, TurnRows}
+use Rattle.claims.specs.Readings.{ReaderFrom, ReaderSetDown, FrontLost}
+use Rattle.claims.specs.Damage.{Front, Back, FrontRead, BackRead}
+use Rattle.claims.specs.Strict.{Words, StrictRows}
 use Rattle.claims.specs.Table.{Row}
 use Rattle.claims.specs.Source.{spec-parse, spec-serialize-helper}
 use Rattle.claims.specs.Try.{Starred}
@@ -90,10 +93,6 @@ WritesLists = (ns before : List ℕ) (at : ℕ) (r : Written) (after : List ℕ)
     × (length ns ≤ list-limit → LaysExactly (forms ns) before at r after)
 
 -- Strict reading of what list writing wrote gives the list back, if that is within the block limit and the answer slice holds it.
-abbrev pub Words : List ℕ → Type 0
-Words [] = Unit {0}
-Words (v ∷ ns) = (v < 2 ^ 64) × Words ns
-
 abbrev pub ListBack : Type 0
 ListBack = (ns before : List ℕ) (at : ℕ) (n : Count) (after old : List ℕ) (r : ReadList) (out : List ℕ)
     → Words ns → WritesList ns before at (W.Bytes n) after → n .0 ≤ block-limit → length ns ≤ length old
@@ -224,15 +223,15 @@ pub record Claims : Type 0 where
   pub set-down-rows : (s : List ℕ) (p : ℕ) (r : SetDown) → SetsDown s p r → SetDownRows s p r
   pub damage-front : Front
   pub damage-back : Back
-  pub damage-front-listed : FrontListed
-  pub damage-back-listed : BackListed
-  pub from-start : FromStart
+  pub damage-front-read : FrontRead
+  pub damage-back-read : BackRead
   pub reader-from : ReaderFrom
   pub reader-set-down : ReaderSetDown
   pub front-lost : FrontLost
   pub one-step : (rule : Rule) (s : List ℕ) (p : ℕ) (r r′ : Step) → Steps rule s p r → Steps rule s p r′ → r ≡ r′
   pub one-set-down : (s : List ℕ) (p : ℕ) (r r′ : SetDown) → SetsDown s p r → SetsDown s p r′ → r ≡ r′
   -- lists
+  pub strict-rows : (s old : List ℕ) (r : ReadList) (out : List ℕ) → Bytes s → ReadsStrict s old r out → StrictRows s old r out
   pub writes-list : WritesLists
   pub list-back : ListBack
   pub one-strict : (s old : List ℕ) (r r′ : ReadList) (out out′ : List ℕ) → ReadsStrict s old r out → ReadsStrict s old r′ out′ → (r ≡ r′) × (out ≡ out′)

@@ -5,4 +5,7 @@ pub mod Source
 pub mod Try
 pub mod Listed
 pub mod Blocks
+pub mod Readings
+pub mod Damage
+pub mod Strict
 pub mod Claims

@@ -1,6 +1,6 @@
 pub mod Totals
 pub mod Layings
-pub mod Cuts
+pub mod Fronts
 pub mod Passing
 pub mod Scanning
 pub mod Answers

@@ -10,7 +10,7 @@ use Rattle.blocks.specs.Block.{block-limit, isStart}
 use Rattle.blocks.proofs.Runs.{front-starts}
 use Rattle.lists.specs.Lists.{numbers}
 use Rattle.lists.specs.Inner.{ahead, many, StartsBefore, Behind}
-use Rattle.lists.proofs.Cuts.{numbers-none}
+use Rattle.lists.proofs.Fronts.{numbers-none}
 
 abbrev added : ℕ → Answer ℕ → Answer ℕ
 added n (gives m) = gives (n + m)

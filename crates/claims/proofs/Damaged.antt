@@ -1,0 +1,94 @@
+-- Demand 3: from the groups' locality, and from what a reader gives.
+use Prim.Native.Nat.{ℕ, _+_, _-_, _≤_, _<_}
+use mathlib.Core.Path.{_≡_, refl, ap, sym, _∙_}
+use mathlib.Core.List.{List, [], _∷_, _++_, append-assoc}
+use mathlib.Core.Logic.{_↔_}
+use native.Mathlib.Omega.{arith}
+use lib.ListN.{length, drop, length-append}
+use lib.Dec.{leb}
+use Rattle.words.specs.Answer.{Answer}
+use Rattle.words.proofs.Cases.{by-test}
+use Rattle.groups.specs.Group.{run}
+use Rattle.blocks.specs.Block.{Val}
+use Rattle.blocks.specs.Cut.{cut}
+use Rattle.blocks.proofs.Cuts.{total, all-bytes, Some, some-each}
+use Rattle.blocks.specs.declared.Rule.{Rule}
+use Rattle.claims.specs.Blocks.{GroupAt}
+use Rattle.claims.specs.Listed.{placed, listed, ending, from, less}
+use Rattle.claims.specs.Readings.{Block, told, Reads}
+use Rattle.claims.specs.Damage.{Front, Back, FrontRead, BackRead}
+use Rattle.claims.proofs.Damage.{ends-before, begins-behind, groups-local}
+use Rattle.claims.proofs.Listed.{ends-within, begins-from}
+use Rattle.claims.proofs.Readings.{reads-all}
+use Rattle.claims.proofs.Same.{same-step}
+use Rattle.claims.proofs.Stepped.{step-rows}
+
+pub front : Front
+front a x y b p g h =
+    let there : GroupAt (a ++ x ++ b) p g ↔ GroupAt (a ++ y ++ b) p g = ends-before groups-local a x y b p g (omega arith) in (
+      there,
+      λ rule r r′ old new k s s′. same-step r r′ (
+          step-rows rule (a ++ x ++ b) p r (old .bytes) s .in-group g (old .short) k
+          ∙ sym (step-rows rule (a ++ y ++ b) p r′ (new .bytes) s′ .in-group g (new .short) (there .0 k))),
+    )
+
+pub back : Back
+back a x y b p p′ g h e =
+    let there : GroupAt (a ++ x ++ b) p g ↔ GroupAt (a ++ y ++ b) p′ g = begins-behind groups-local a x y b p p′ g (omega arith) e in (
+      there,
+      λ rule r r′ old new k s s′. (
+        step-rows rule (a ++ x ++ b) p r (old .bytes) s .in-group g (old .short) k,
+        step-rows rule (a ++ y ++ b) p′ r′ (new .bytes) s′ .in-group g (new .short) (there .0 k),
+      ),
+    )
+
+-- reading keeps places and counts
+told-ending : (f : ℕ → Rule) (n : ℕ) (l : List (ℕ × ℕ × List ℕ)) → ending n (told f l) ≡ told f (ending n l)
+told-ending f n [] = refl
+told-ending f n (k ∷ l) = by-test (leb (k .0 + k .1) n) (λ e. rw (e, told-ending f n l)) (λ e. rw e (told-ending f n l))
+
+told-from : (f : ℕ → Rule) (n : ℕ) (l : List (ℕ × ℕ × List ℕ)) → from n (told f l) ≡ told f (from n l)
+told-from f n [] = refl
+told-from f n (k ∷ l) = by-test (leb n (k .0)) (λ e. rw (e, told-from f n l)) (λ e. rw e (told-from f n l))
+
+-- rules that are chosen alike read alike
+alike : (f f′ : ℕ → Rule) (n p : ℕ) (gs : List (List ℕ)) → Some gs → p + total gs ≤ n → ((q : ℕ) → q < n → f q ≡ f′ q)
+    → told f (placed p gs) ≡ told f′ (placed p gs)
+alike f f′ n p [] k h e = refl
+alike f f′ n p (g ∷ gs) k h e = rw (e p (omega (arith, k .0)), alike f f′ n (p + length g) gs (k .1) (omega arith) e)
+
+moved : (f f′ : ℕ → Rule) (n n′ p : ℕ) (gs : List (List ℕ)) → ((q : ℕ) → f (n + q) ≡ f′ (n′ + q))
+    → less n (told f (placed (n + p) gs)) ≡ less n′ (told f′ (placed (n′ + p) gs))
+moved f f′ n n′ p [] e = refl
+moved f f′ n n′ p (g ∷ gs) e =
+    let i : n + p - n ≡ p = omega arith in
+    let i′ : n′ + p - n′ ≡ p = omega arith in
+    let j : n + p + length g ≡ n + (p + length g) = omega arith in
+    let j′ : n′ + p + length g ≡ n′ + (p + length g) = omega arith in
+    rw (i, i′, j, j′, e p, moved f f′ n n′ (p + length g) gs e)
+
+pub front-read : FrontRead
+front-read a x y b f f′ l l′ old new e k k′ = part f x l old k ∙ alike f f′ (length a) 0 (cut a .groups) (some-each a) (omega (arith, all-bytes a)) e ∙ sym (part f′ y l′ new k′)
+  where
+    part : (f : ℕ → Rule) (z : List ℕ) (l : List (ℕ × ℕ × Answer Val)) → Block (a ++ z ++ b) → Reads f (a ++ z ++ b) 0 l → ending (length a) l ≡ told f (listed a)
+    part f z l k r =
+        rw (reads-all f (a ++ z ++ b) k l r)
+        (told-ending f (length a) (listed (a ++ z ++ b))
+        ∙ ap (λ (s : List ℕ). told f (ending (length a) (listed s))) (append-assoc a z b) ∙ ap (told f) (ends-within a (z ++ b)))
+
+pub back-read : BackRead
+back-read a x y b f f′ l l′ old new e k k′ =
+    let n = length (a ++ x) + run b + 1 in
+    let n′ = length (a ++ y) + run b + 1 in
+    let z : n + 0 ≡ n = omega arith in
+    let z′ : n′ + 0 ≡ n′ = omega arith in
+    ap (less n) (part f (a ++ x) l old k)
+    ∙ rw (z, z′) at (moved f f′ n n′ 0 (cut (drop (run b + 1) b) .groups)
+    (λ q. e (n + q) (n′ + q) (omega arith) (omega (arith, length-append a x, length-append a y))))
+    ∙ sym (ap (less n′) (part f′ (a ++ y) l′ new k′))
+  where
+    part : (f : ℕ → Rule) (c : List ℕ) (l : List (ℕ × ℕ × Answer Val)) → Block (c ++ b) → Reads f (c ++ b) 0 l
+        → from (length c + run b + 1) l ≡ told f (placed (length c + run b + 1) (cut (drop (run b + 1) b) .groups))
+    part f c l k r =
+        rw (reads-all f (c ++ b) k l r)
+        (told-from f (length c + run b + 1) (listed (c ++ b)) ∙ ap (told f) (begins-from c b (length c + run b + 1) (omega arith) (omega arith)))

@@ -1,0 +1,146 @@
+-- The numbers of a block, or its first fault.
+--
+--   Outcome, outcome   what the numbers of a block say of it: it is their forms, or behind some of them stands a fault
+--   fault-behind       and back: behind the forms of numbers a fault is the first one
+use Prim.Native.Nat.{ℕ, zero, suc, _+_, _<_, _^_}
+use mathlib.Core.Path.{_≡_, refl, ap, sym, _∙_, subst}
+use mathlib.Core.List.{List, [], _∷_, _++_, append-nil, append-assoc}
+use mathlib.Core.Logic.{⊎-elim}
+use native.Mathlib.Omega.{arith}
+use lib.ListN.{length, take, drop, length-append, length-drop, take-append-drop}
+use lib.Seq.{take-append-seam, take-length, getD-drop}
+use Rattle.words.specs.Answer.{Answer, gives, refused}
+use Rattle.words.specs.Refusal.{numberOf}
+use Rattle.words.specs.declared.Refusal.{Refusal}
+use Rattle.words.specs.declared.Refusal.the-variants.{End, Overflow, NotShortest, Place, NoRoom, NotAStart, TooLong, NoStart}
+use Rattle.words.proofs.Cases.{by-order}
+use Rattle.groups.specs.Begins.{Begins}
+use Rattle.groups.specs.Group.{Bytes, Group, one, more, run}
+use Rattle.groups.specs.Width.{reading}
+use Rattle.groups.proofs.Exact.{group-length}
+use Rattle.groups.proofs.Run.{run-within}
+use Rattle.groups.proofs.Standing.{front-group, reading-count, run-behind}
+use Rattle.uleb128.specs.Unsigned.{form, u64}
+use Rattle.lists.specs.Lists.{joined, numbers, forms}
+use Rattle.lists.specs.declared.ReadList.the-variants as L
+use Rattle.lists.proofs.Fronts.{numbers-group, numbers-tail, numbers-none}
+use Rattle.claims.specs.Readers.{loop64, OfWidth}
+use Rattle.claims.specs.Table.{Row}
+use Rattle.claims.specs.Strict.{Words, Numbers, Fault, FirstFault}
+use Rattle.claims.proofs.Laws.{laws, exhausts}
+use Rattle.claims.proofs.Lists.{from-front, form-alone, numbers-ahead}
+use Rattle.claims.proofs.Rows.{row-refused, high-run, run-high}
+
+empty : (s : List ℕ) → length s ≡ 0 → s ≡ []
+empty [] e = refl
+empty (b ∷ s) e = absurd (omega arith)
+
+group-bytes : {g : List ℕ} → Group g → Bytes g
+group-bytes (one h) zero = omega arith
+group-bytes (one h) (suc i) = omega arith
+group-bytes (more h b k) zero = b
+group-bytes (more h b k) (suc i) = group-bytes k i
+
+-- a group is the form of a number, or has a fault
+data Sorted (g : List ℕ) : Type 0 where
+  number : (v : ℕ) → v < 2 ^ 64 → g ≡ form v → Sorted g
+  fault : (why : Refusal) → reading u64 g ≡ refused (numberOf why) → ((more : List ℕ) → Fault why (g ++ more)) → Sorted g
+
+sorted : (g : List ℕ) → Group g → Sorted g
+sorted g k =
+    ⊎-elim (λ (row : (why : Refusal) × Row u64 why g 0). by-row (row .0) (row .1))
+    (λ (b : (v : ℕ) × (n : ℕ) × Begins form (OfWidth loop64) g 0 v n). by-number (b .0) (b .1) (b .2))
+    (exhausts loop64 (laws loop64) g 0 (group-bytes k))
+  where
+    says : (why : Refusal) → Row u64 why g 0 → reading u64 g ≡ refused (numberOf why)
+    says why row = sym (from-front g) ∙ row-refused u64 (laws loop64 .sound) why g 0 row
+
+    by-row : (why : Refusal) → Row u64 why g 0 → Sorted g
+    by-row End row = absurd (omega (arith, group-length k, high-run g (length g) (omega arith) (rw (take-length g) (row .1 .high))))
+    by-row Overflow row = fault Overflow (says Overflow row) (λ more. (g, more, refl, k, row .1))
+    by-row NotShortest row = fault NotShortest (says NotShortest row) (λ more. (g, more, refl, k, row .1))
+    by-row Place row = absurd (omega (arith, row))
+    by-row NoRoom row = absurd row
+    by-row NotAStart row = absurd row
+    by-row TooLong row = absurd row
+    by-row NoStart row = absurd row
+
+    by-number : (v n : ℕ) → Begins form (OfWidth loop64) g 0 v n → Sorted g
+    by-number v n b =
+        let c = reading-count u64 g (sym (from-front g) ∙ laws loop64 .begun g 0 v n b) in
+        let l : length g ≡ length (form v) + length (b .rest) = ap length (b .begins) ∙ length-append (form v) (b .rest) in
+        let none : b .rest ≡ [] = empty (b .rest) (omega (arith, c, b .count, group-length k)) in
+        number v (b .of-width) (b .begins ∙ ap (λ (t : List ℕ). form v ++ t) none ∙ append-nil (form v))
+
+-- what the numbers of a block say of it
+pub data Outcome (s : List ℕ) : Answer (List ℕ) → Type 0 where
+  all : (ns : List ℕ) → Numbers s ns → Outcome s (gives ns)
+  broken : (why : Refusal) → FirstFault why s → Outcome s (refused (numberOf why))
+
+ahead : (v : ℕ) (s rest : List ℕ) (a : Answer (List ℕ)) → v < 2 ^ 64 → s ≡ form v ++ rest → Outcome rest a → Outcome s (joined (gives (v, length (form v))) a)
+unfolding forms
+ahead v s rest _ h e (all ns k) = all (v ∷ ns) (e ∙ ap (λ (t : List ℕ). form v ++ t) (k .0), (h, k .1))
+ahead v s rest _ h e (broken why k) = broken why (record {
+  ns = v ∷ k .ns;
+  rest = k .rest;
+  words = (h, k .words);
+  behind = e ∙ ap (λ (t : List ℕ). form v ++ t) (k .behind) ∙ sym (append-assoc (form v) (forms (k .ns)) (k .rest));
+  fault = k .fault;
+})
+
+-- what the group in front says, and what is left says
+in-front : (s : List ℕ) → Group (take (run s + 1) s) → Outcome (drop (run s + 1) s) (numbers (drop (run s + 1) s))
+    → Outcome s (joined (reading u64 (take (run s + 1) s)) (numbers (drop (run s + 1) s)))
+unfolding forms
+in-front s k rest = go (sorted (take (run s + 1) s) k)
+  where
+    split : s ≡ take (run s + 1) s ++ drop (run s + 1) s
+    split = sym (take-append-drop (run s + 1) s)
+
+    go : Sorted (take (run s + 1) s) → Outcome s (joined (reading u64 (take (run s + 1) s)) (numbers (drop (run s + 1) s)))
+    go (number v b e) =
+        rw (e, form-alone v b)
+        (ahead v s (drop (run s + 1) s) (numbers (drop (run s + 1) s)) b (split ∙ ap (λ (t : List ℕ). t ++ drop (run s + 1) s) e) rest)
+    go (fault why e k) = rw e (broken why (record { ns = []; rest = s; words = tt; behind = refl; fault = subst (Fault why) (sym split) (k (drop (run s + 1) s)) }))
+
+pub outcome : (n : ℕ) (s : List ℕ) → length s < n → Bytes s → Outcome s (numbers s)
+unfolding forms
+outcome zero s h bytes = absurd (omega arith)
+outcome (suc n) s h bytes =
+    by-order (run s) (length s)
+    (λ c.
+    rw (numbers-group s c) (in-front s (front-group s bytes c)
+    (outcome n (drop (run s + 1) s) (omega (arith, length-drop (run s + 1) s)) (λ i. rw (getD-drop (run s + 1) s i 0) (bytes (run s + 1 + i))))))
+    (λ c. by-order 0 (length s)
+    (λ some. rw (numbers-tail s (omega (arith, run-within s)) some) (broken End (record {
+      ns = [];
+      rest = s;
+      words = tt;
+      behind = refl;
+      fault = (some, rw (take-length s) at (run-high s (length s) c));
+    })))
+    (λ none. rw (numbers-none s (omega arith)) (all [] (empty s (omega arith), tt))))
+
+-- and back: a first fault is what the numbers say
+group-refused : (why : Refusal) (g rest : List ℕ) → Group g → Row u64 why g 0 → numbers (g ++ rest) ≡ refused (numberOf why)
+group-refused why g rest k row =
+    let r : run (g ++ rest) + 1 ≡ length g = omega (arith, run-behind rest k, group-length k) in
+    let t : take (run (g ++ rest) + 1) (g ++ rest) ≡ g = rw r (take-append-seam g rest) in
+    numbers-group (g ++ rest) (rw length-append (omega (arith, r)))
+    ∙ rw (t, sym (from-front g) ∙ row-refused u64 (laws loop64 .sound) why g 0 row)
+
+faulty : (why : Refusal) (rest : List ℕ) → Fault why rest → numbers rest ≡ refused (numberOf why)
+faulty End rest k = numbers-tail rest (omega (arith, run-within rest, high-run rest (length rest) (omega arith) (rw (take-length rest) (k .1)))) (k .0)
+faulty Overflow rest k = rw (k .2) (group-refused Overflow (k .0) (k .1) (k .3) (omega arith, k .4))
+faulty NotShortest rest k = rw (k .2) (group-refused NotShortest (k .0) (k .1) (k .3) (omega arith, k .4))
+faulty Place rest k = absurd k
+faulty NoRoom rest k = absurd k
+faulty NotAStart rest k = absurd k
+faulty TooLong rest k = absurd k
+faulty NoStart rest k = absurd k
+
+pub fault-behind : (why : Refusal) (ns rest : List ℕ) → Words ns → Fault why rest → numbers (forms ns ++ rest) ≡ refused (numberOf why)
+unfolding forms
+fault-behind why [] rest w k = faulty why rest k
+fault-behind why (v ∷ ns) rest w k =
+    rw (append-assoc (form v) (forms ns) rest) (numbers-ahead v (forms ns ++ rest) (w .0) ∙ rw (fault-behind why ns rest (w .1) k))
