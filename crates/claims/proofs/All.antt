@@ -27,6 +27,7 @@ use Rattle.claims.proofs.Same.{same-step, same-set, same-list, same-wri
 use Rattle.claims.proofs.Damaged.{front, back, front-read, back-read}
 use Rattle.claims.proofs.Readings.{reader-from}
 use Rattle.claims.proofs.Anywhere.{reader-set-down, front-lost}
+use Rattle.claims.proofs.Grouped.{read-group}
 use Rattle.claims.proofs.Lists.{list-back}
 use Rattle.claims.proofs.Strict.{strict-rows}
 use Rattle.claims.proofs.Stepped.{step-rows}
@@ -96,6 +97,7 @@ all = record {
   one-reply = λ k. one-reply k (laws k);
   one-written = one-written;
   one-length = one-length;
+  read-group = read-group;
   step-rows = step-rows;
   set-down-rows = set-down-rows;
   damage-front = front;
@@ -107,7 +109,7 @@ all = record {
   front-lost = front-lost;
   one-step = λ rule s p r r′ a b. same-step r r′ (a .is ∙ sym (b .is));
   one-set-down = λ s p r r′ a b. same-set r r′ (a .is ∙ sym (b .is));
-  strict-rows = λ s old r out bytes p. strict-rows s old r out p bytes;
+  strict-rows = strict-rows;
   writes-list = writes-list;
   list-back = list-back;
   one-strict = λ s old r r′ out out′ a b. (same-list r r′ (a .answer ∙ sym (b .answer)), a .leaves ∙ sym (b .leaves));

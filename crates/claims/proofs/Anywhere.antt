@@ -15,16 +15,18 @@ use Rattle.blocks.specs.Cut.{cut}
 use Rattle.blocks.specs.declared.SetDown.the-variants as D
 use Rattle.blocks.proofs.Cuts.{nothing-left}
 use Rattle.claims.specs.Listed.{placed, listed, from, less}
-use Rattle.claims.specs.Blocks.{Start}
+use Rattle.claims.specs.Blocks.{Start, Least}
 use Rattle.claims.specs.Readings.{Block, ReaderSetDown, FrontLost}
 use Rattle.claims.proofs.Listed.{from-start, begins-from, lessened}
 use Rattle.claims.proofs.Settled.{set-down-rows, not-before, start-there}
 use Rattle.claims.proofs.Readings.{exactly, as-groups}
 
 -- the groups that begin at p or later begin at the least start there or behind it
-settled-groups : (s : List ℕ) (p c : ℕ) → p ≤ c → Start s c → ((q : ℕ) → p ≤ q → q < c → Start s q → ⊥)
-    → from p (listed s) ≡ placed c (cut (drop c s) .groups)
-settled-groups s p c h k least =
+settled-groups : (s : List ℕ) (p c : ℕ) → Least s p c → from p (listed s) ≡ placed c (cut (drop c s) .groups)
+settled-groups s p c m =
+    let h = m .from in
+    let k = m .start in
+    let least = m .none-before in
     by-order 0 p
     (λ some.
     let b = drop (p - 1) s in
@@ -62,9 +64,10 @@ no-groups s p h none =
 pub reader-set-down : ReaderSetDown
 reader-set-down f s p bytes = (
   λ c l a.
-      let w = set-down-rows s p (D.At c) a .least c .0 refl in
-      as-groups f (settled-groups s p (c .place .0) (w .1) (w .2) (w .3)) (exactly f s (record { bytes = bytes; short = w .0 }) (c .place .0) l (w .2)),
-  λ a. let w = set-down-rows s p (D.Refused NoStart) a .none .0 refl in no-groups s p (w .1) (w .2),
+      let w = set-down-rows s p (D.At c) .0 a in
+      let k : Least s p (c .place .0) = w .1 in
+      as-groups f (settled-groups s p (c .place .0) k) (exactly f s (record { bytes = bytes; short = w .0 }) (c .place .0) l (k .start)),
+  λ a. let w = set-down-rows s p (D.Refused NoStart) .0 a in no-groups s p (w .1) (w .2),
 )
 
 -- a start behind place 0 of what is left is a start of the whole
@@ -83,8 +86,9 @@ pub front-lost : FrontLost
 front-lost f o k c l bytes a =
     let s = drop k o in
     let q = c .place .0 in
-    let w = set-down-rows s 1 (D.At c) a .least c .0 refl in
+    let w = set-down-rows s 1 (D.At c) .0 a in
+    let m : Least s 1 (c .place .0) = w .1 in
     let block : Block s = record { bytes = λ i. rw (getD-drop k o i 0) (bytes (k + i)); short = w .0 } in
     let e : less k (from (k + q) (listed o)) ≡ placed q (cut (drop q s) .groups) =
-    ap (less k) (from-start o (k + q) (start-behind o k q (w .1) (w .2))) ∙ lessened k q (cut (drop (k + q) o) .groups) ∙ rw (drop-drop q k o) in
-    as-groups f e (exactly f s block q l (w .2))
+    ap (less k) (from-start o (k + q) (start-behind o k q (m .from) (m .start))) ∙ lessened k q (cut (drop (k + q) o) .groups) ∙ rw (drop-drop q k o) in
+    as-groups f e (exactly f s block q l (m .start))

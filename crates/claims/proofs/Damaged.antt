@@ -9,7 +9,9 @@ use lib.Dec.{leb}
 use Rattle.words.specs.Answer.{Answer}
 use Rattle.words.proofs.Cases.{by-test}
 use Rattle.groups.specs.Group.{run}
-use Rattle.blocks.specs.Block.{Val}
+use Rattle.blocks.specs.Block.{Val, saysBy}
+use Rattle.blocks.specs.Promise.{meaning, Steps}
+use Rattle.blocks.specs.declared.Step.{Step}
 use Rattle.blocks.specs.Cut.{cut}
 use Rattle.blocks.proofs.Cuts.{total, all-bytes, Some, some-each}
 use Rattle.blocks.specs.declared.Rule.{Rule}
@@ -21,26 +23,21 @@ use Rattle.claims.proofs.Damage.{ends-before, begins-behind, groups-loc
 use Rattle.claims.proofs.Listed.{ends-within, begins-from}
 use Rattle.claims.proofs.Readings.{reads-all}
 use Rattle.claims.proofs.Same.{same-step}
-use Rattle.claims.proofs.Stepped.{step-rows}
+use Rattle.claims.proofs.Stepped.{says-group}
+
+-- a step says of a group what its own bytes say
+said : {rule : Rule} {s : List ℕ} {p : ℕ} {g : List ℕ} {r : Step} → Block s → GroupAt s p g → Steps rule s p r → meaning r ≡ saysBy rule g p
+said {rule} {s} {p} {g} block k w = w .is ∙ sym (says-group rule s p g (block .short) k)
 
 pub front : Front
 front a x y b p g h =
-    let there : GroupAt (a ++ x ++ b) p g ↔ GroupAt (a ++ y ++ b) p g = ends-before groups-local a x y b p g (omega arith) in (
-      there,
-      λ rule r r′ old new k s s′. same-step r r′ (
-          step-rows rule (a ++ x ++ b) p r (old .bytes) s .in-group g (old .short) k
-          ∙ sym (step-rows rule (a ++ y ++ b) p r′ (new .bytes) s′ .in-group g (new .short) (there .0 k))),
-    )
+    let there : GroupAt (a ++ x ++ b) p g ↔ GroupAt (a ++ y ++ b) p g = ends-before groups-local a x y b p g (omega arith) in
+    (there, λ rule r r′ old new k w w′. same-step r r′ (said old k w ∙ sym (said new (there .0 k) w′)))
 
 pub back : Back
 back a x y b p p′ g h e =
-    let there : GroupAt (a ++ x ++ b) p g ↔ GroupAt (a ++ y ++ b) p′ g = begins-behind groups-local a x y b p p′ g (omega arith) e in (
-      there,
-      λ rule r r′ old new k s s′. (
-        step-rows rule (a ++ x ++ b) p r (old .bytes) s .in-group g (old .short) k,
-        step-rows rule (a ++ y ++ b) p′ r′ (new .bytes) s′ .in-group g (new .short) (there .0 k),
-      ),
-    )
+    let there : GroupAt (a ++ x ++ b) p g ↔ GroupAt (a ++ y ++ b) p′ g = begins-behind groups-local a x y b p p′ g (omega arith) e in
+    (there, λ rule r r′ old new k w w′. (said old k w, said new (there .0 k) w′))
 
 -- reading keeps places and counts
 told-ending : (f : ℕ → Rule) (n : ℕ) (l : List (ℕ × ℕ × List ℕ)) → ending n (told f l) ≡ told f (ending n l)

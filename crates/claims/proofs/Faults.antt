@@ -3,74 +3,50 @@
 --   Outcome, outcome   what the numbers of a block say of it: it is their forms, or behind some of them stands a fault
 --   fault-behind       and back: behind the forms of numbers a fault is the first one
 use Prim.Native.Nat.{ℕ, zero, suc, _+_, _<_, _^_}
-use mathlib.Core.Path.{_≡_, refl, ap, sym, _∙_, subst}
-use mathlib.Core.List.{List, [], _∷_, _++_, append-nil, append-assoc}
-use mathlib.Core.Logic.{⊎-elim}
+use mathlib.Core.Path.{_≡_, refl, ap, sym, _∙_}
+use mathlib.Core.List.{List, [], _∷_, _++_, append-assoc}
+use mathlib.Core.Logic.{inl, inr, ⊎-elim}
 use native.Mathlib.Omega.{arith}
 use lib.ListN.{length, take, drop, length-append, length-drop, take-append-drop}
 use lib.Seq.{take-append-seam, take-length, getD-drop}
 use Rattle.words.specs.Answer.{Answer, gives, refused}
 use Rattle.words.specs.Refusal.{numberOf}
 use Rattle.words.specs.declared.Refusal.{Refusal}
-use Rattle.words.specs.declared.Refusal.the-variants.{End, Overflow, NotShortest, Place, NoRoom, NotAStart, TooLong, NoStart}
+use Rattle.words.specs.declared.Refusal.the-variants.{End}
 use Rattle.words.proofs.Cases.{by-order}
 use Rattle.groups.specs.Begins.{Begins}
-use Rattle.groups.specs.Group.{Bytes, Group, one, more, run}
+use Rattle.groups.specs.Group.{Bytes, High, Group, run}
 use Rattle.groups.specs.Width.{reading}
 use Rattle.groups.proofs.Exact.{group-length}
 use Rattle.groups.proofs.Run.{run-within}
 use Rattle.groups.proofs.Standing.{front-group, reading-count, run-behind}
 use Rattle.uleb128.specs.Unsigned.{form, u64}
 use Rattle.lists.specs.Lists.{joined, numbers, forms}
-use Rattle.lists.specs.declared.ReadList.the-variants as L
 use Rattle.lists.proofs.Fronts.{numbers-group, numbers-tail, numbers-none}
 use Rattle.claims.specs.Readers.{loop64, OfWidth}
-use Rattle.claims.specs.Table.{Row}
+use Rattle.claims.specs.Table.{Row, GapRow}
 use Rattle.claims.specs.Strict.{Words, Numbers, Fault, FirstFault}
+use Rattle.claims.proofs.Grouped.{from-front, group-bytes, empty, read-group}
 use Rattle.claims.proofs.Laws.{laws, exhausts}
-use Rattle.claims.proofs.Lists.{from-front, form-alone, numbers-ahead}
+use Rattle.claims.proofs.Lists.{form-alone, numbers-ahead}
 use Rattle.claims.proofs.Rows.{row-refused, high-run, run-high}
 
-empty : (s : List ℕ) → length s ≡ 0 → s ≡ []
-empty [] e = refl
-empty (b ∷ s) e = absurd (omega arith)
-
-group-bytes : {g : List ℕ} → Group g → Bytes g
-group-bytes (one h) zero = omega arith
-group-bytes (one h) (suc i) = omega arith
-group-bytes (more h b k) zero = b
-group-bytes (more h b k) (suc i) = group-bytes k i
-
--- a group is the form of a number, or has a fault
+-- a group is the form of a number, or a gap
 data Sorted (g : List ℕ) : Type 0 where
   number : (v : ℕ) → v < 2 ^ 64 → g ≡ form v → Sorted g
-  fault : (why : Refusal) → reading u64 g ≡ refused (numberOf why) → ((more : List ℕ) → Fault why (g ++ more)) → Sorted g
+  gap : (why : Refusal) → reading u64 g ≡ refused (numberOf why) → GapRow u64 why g → Sorted g
 
 sorted : (g : List ℕ) → Group g → Sorted g
 sorted g k =
-    ⊎-elim (λ (row : (why : Refusal) × Row u64 why g 0). by-row (row .0) (row .1))
-    (λ (b : (v : ℕ) × (n : ℕ) × Begins form (OfWidth loop64) g 0 v n). by-number (b .0) (b .1) (b .2))
+    ⊎-elim (λ (row : (why : Refusal) × Row u64 why g 0).
+    let e = sym (from-front u64 g) ∙ row-refused u64 (laws loop64 .sound) (row .0) g 0 (row .1) in
+    gap (row .0) e (read-group loop64 g k .gap (row .0) .0 e))
+    (λ (b : (v : ℕ) × (n : ℕ) × Begins form (OfWidth loop64) g 0 v n).
+    let e = sym (from-front u64 g) ∙ laws loop64 .begun g 0 (b .0) (b .1) (b .2) in
+    let n : b .1 ≡ length g = reading-count u64 g e ∙ omega (arith, group-length k) in
+    let f = read-group loop64 g k .number (b .0) .0 (rw n at e) in
+    number (b .0) (f .0) (f .1))
     (exhausts loop64 (laws loop64) g 0 (group-bytes k))
-  where
-    says : (why : Refusal) → Row u64 why g 0 → reading u64 g ≡ refused (numberOf why)
-    says why row = sym (from-front g) ∙ row-refused u64 (laws loop64 .sound) why g 0 row
-
-    by-row : (why : Refusal) → Row u64 why g 0 → Sorted g
-    by-row End row = absurd (omega (arith, group-length k, high-run g (length g) (omega arith) (rw (take-length g) (row .1 .high))))
-    by-row Overflow row = fault Overflow (says Overflow row) (λ more. (g, more, refl, k, row .1))
-    by-row NotShortest row = fault NotShortest (says NotShortest row) (λ more. (g, more, refl, k, row .1))
-    by-row Place row = absurd (omega (arith, row))
-    by-row NoRoom row = absurd row
-    by-row NotAStart row = absurd row
-    by-row TooLong row = absurd row
-    by-row NoStart row = absurd row
-
-    by-number : (v n : ℕ) → Begins form (OfWidth loop64) g 0 v n → Sorted g
-    by-number v n b =
-        let c = reading-count u64 g (sym (from-front g) ∙ laws loop64 .begun g 0 v n b) in
-        let l : length g ≡ length (form v) + length (b .rest) = ap length (b .begins) ∙ length-append (form v) (b .rest) in
-        let none : b .rest ≡ [] = empty (b .rest) (omega (arith, c, b .count, group-length k)) in
-        number v (b .of-width) (b .begins ∙ ap (λ (t : List ℕ). form v ++ t) none ∙ append-nil (form v))
 
 -- what the numbers of a block say of it
 pub data Outcome (s : List ℕ) : Answer (List ℕ) → Type 0 where
@@ -101,7 +77,14 @@ in-front s k rest = go (sorted (take (run s + 1) s) k)
     go (number v b e) =
         rw (e, form-alone v b)
         (ahead v s (drop (run s + 1) s) (numbers (drop (run s + 1) s)) b (split ∙ ap (λ (t : List ℕ). t ++ drop (run s + 1) s) e) rest)
-    go (fault why e k) = rw e (broken why (record { ns = []; rest = s; words = tt; behind = refl; fault = subst (Fault why) (sym split) (k (drop (run s + 1) s)) }))
+    go (gap why e row) =
+        rw e (broken why (record {
+          ns = [];
+          rest = s;
+          words = tt;
+          behind = refl;
+          fault = inl (take (run s + 1) s, drop (run s + 1) s, split, k, row);
+        }))
 
 pub outcome : (n : ℕ) (s : List ℕ) → length s < n → Bytes s → Outcome s (numbers s)
 unfolding forms
@@ -117,27 +100,26 @@ outcome (suc n) s h bytes =
       rest = s;
       words = tt;
       behind = refl;
-      fault = (some, rw (take-length s) at (run-high s (length s) c));
+      fault = inr (refl, some, rw (take-length s) at (run-high s (length s) c));
     })))
     (λ none. rw (numbers-none s (omega arith)) (all [] (empty s (omega arith), tt))))
 
 -- and back: a first fault is what the numbers say
-group-refused : (why : Refusal) (g rest : List ℕ) → Group g → Row u64 why g 0 → numbers (g ++ rest) ≡ refused (numberOf why)
-group-refused why g rest k row =
+gap-refused : (why : Refusal) (g rest : List ℕ) → Group g → GapRow u64 why g → numbers (g ++ rest) ≡ refused (numberOf why)
+gap-refused why g rest k row =
     let r : run (g ++ rest) + 1 ≡ length g = omega (arith, run-behind rest k, group-length k) in
     let t : take (run (g ++ rest) + 1) (g ++ rest) ≡ g = rw r (take-append-seam g rest) in
-    numbers-group (g ++ rest) (rw length-append (omega (arith, r)))
-    ∙ rw (t, sym (from-front g) ∙ row-refused u64 (laws loop64 .sound) why g 0 row)
+    numbers-group (g ++ rest) (rw length-append (omega (arith, r))) ∙ rw (t, read-group loop64 g k .gap why .1 row)
+
+tail-refused : (rest : List ℕ) → 0 < length rest → High rest → numbers rest ≡ refused 1
+tail-refused rest some high =
+    numbers-tail rest (omega (arith, run-within rest, high-run rest (length rest) (omega arith) (rw (take-length rest) high))) some
 
 faulty : (why : Refusal) (rest : List ℕ) → Fault why rest → numbers rest ≡ refused (numberOf why)
-faulty End rest k = numbers-tail rest (omega (arith, run-within rest, high-run rest (length rest) (omega arith) (rw (take-length rest) (k .1)))) (k .0)
-faulty Overflow rest k = rw (k .2) (group-refused Overflow (k .0) (k .1) (k .3) (omega arith, k .4))
-faulty NotShortest rest k = rw (k .2) (group-refused NotShortest (k .0) (k .1) (k .3) (omega arith, k .4))
-faulty Place rest k = absurd k
-faulty NoRoom rest k = absurd k
-faulty NotAStart rest k = absurd k
-faulty TooLong rest k = absurd k
-faulty NoStart rest k = absurd k
+faulty why rest =
+    ⊎-elim (λ (k : (g : List ℕ) × (more : List ℕ) × (rest ≡ g ++ more) × Group g × GapRow u64 why g).
+    ap numbers (k .2) ∙ gap-refused why (k .0) (k .1) (k .3) (k .4))
+    (λ (k : (why ≡ End) × (0 < length rest) × High rest). rw (k .0) (tail-refused rest (k .1) (k .2)))
 
 pub fault-behind : (why : Refusal) (ns rest : List ℕ) → Words ns → Fault why rest → numbers (forms ns ++ rest) ≡ refused (numberOf why)
 unfolding forms

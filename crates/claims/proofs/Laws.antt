@@ -121,7 +121,7 @@ accepts k l s at r bytes p v n = (
 )
 
 -- 2
-read-row : (k : Reader) → Laws k → (s : List ℕ) (at : ℕ) → Bytes s → (why : Refusal) → read (width k) s at ≡ refused (numberOf why) → Row (width k) why s at
+pub read-row : (k : Reader) → Laws k → (s : List ℕ) (at : ℕ) → Bytes s → (why : Refusal) → read (width k) s at ≡ refused (numberOf why) → Row (width k) why s at
 read-row k l s at bytes why e =
     ⊎-elim (λ (row : (a : Refusal) × Row (width k) a s at).
     subst (λ (a : Refusal). Row (width k) a s at) (refused-same (row .0) why (sym (row-refused (width k) (l .sound) (row .0) s at (row .1)) ∙ e)) (row .1))

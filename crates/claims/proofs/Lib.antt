@@ -6,11 +6,11 @@ mod Spelled
 mod Sources
 mod Damage
 mod Listed
+mod Grouped
 mod Lists
 mod Faults
 mod Strict
 mod Stepped
-mod Answered
 mod Settled
 mod Readings
 mod Anywhere

@@ -12,7 +12,7 @@ use Rattle.words.specs.declared.Written.the-variants as W
 use Rattle.words.proofs.Cases.{by-order}
 use Rattle.blocks.specs.Block.{block-limit}
 use Rattle.groups.specs.Group.{run}
-use Rattle.groups.specs.Width.{reading, read}
+use Rattle.groups.specs.Width.{reading}
 use Rattle.groups.proofs.Standing.{reading-count}
 use Rattle.uleb128.specs.Unsigned.{form, u64}
 use Rattle.lists.specs.Lists.{list-limit, joined, numbers, strict, filled, forms}
@@ -22,17 +22,14 @@ use Rattle.lists.specs.declared.ReadList.the-variants as L
 use Rattle.claims.specs.Readers.{loop64}
 use Rattle.claims.specs.Claims.{ListBack}
 use Rattle.claims.specs.Strict.{Words}
+use Rattle.claims.proofs.Grouped.{from-front}
 use Rattle.claims.proofs.Same.{apart, same-list}
 use Rattle.claims.proofs.Trips.{writes-list}
 use Rattle.claims.proofs.Laws.{laws}
 
-pub from-front : (s : List ℕ) → read u64 s 0 ≡ reading u64 s
-unfolding read
-from-front s = rw (le-ltb (length s) 0 (omega arith))
-
 -- a number's form is read, whatever follows it
 read-form : (v : ℕ) (rest : List ℕ) → v < 2 ^ 64 → reading u64 (form v ++ rest) ≡ gives (v, length (form v))
-read-form v rest h = sym (from-front (form v ++ rest)) ∙ laws loop64 .begun (form v ++ rest) 0 v (length (form v)) (record {
+read-form v rest h = sym (from-front u64 (form v ++ rest)) ∙ laws loop64 .begun (form v ++ rest) 0 v (length (form v)) (record {
   here = omega arith;
   of-width = h;
   rest = rest;

@@ -1,177 +1,120 @@
 -- What a reader gives, step after step, is the groups of the block.
 --
---   given, behind   what is given of an answer, and where the cursor is then
---   all-given       what steps give from a start is the groups from there on
---   ends            and steps give them: each step has an answer, and each group some byte
---   exactly         together
+--   at-group, no-group   the groups from a start on: one and those behind it, or none
+--   all-given            what steps give from a start is the groups from there on
+--   ends                 and steps give them: one of a step's rows holds, and each group has some byte
+--   exactly              together
 use Prim.Native.Nat.{ℕ, zero, suc, _+_, _-_, _≤_, _<_}
 use mathlib.Core.Path.{_≡_, refl, ap, sym, _∙_, subst}
 use mathlib.Core.List.{List, [], _∷_}
-use mathlib.Core.Logic.{_↔_, _⊎_, inl, inr, ⊎-elim}
+use mathlib.Core.Logic.{_↔_, inl, inr}
 use native.Mathlib.Omega.{arith}
-use lib.ListN.{length, take, drop, length-drop}
-use lib.Seq.{length-take-le, drop-drop, getD-drop}
+use lib.ListN.{length, drop, length-drop}
+use lib.Seq.{take-length, drop-drop, getD-drop}
 use Rattle.words.specs.Answer.{Answer, gives, refused}
-use Rattle.words.proofs.Cases.{by-order}
-use Rattle.groups.specs.Group.{Group, run}
-use Rattle.groups.specs.Width.{reading}
+use Rattle.words.specs.Refusal.{numberOf}
+use Rattle.words.specs.declared.Refusal.{Refusal}
+use Rattle.words.specs.declared.Refusal.the-variants.{End, Overflow, NotShortest, Place, NoRoom, NotAStart, TooLong, NoStart}
+use Rattle.groups.specs.Group.{run}
 use Rattle.groups.proofs.Exact.{group-length}
-use Rattle.groups.proofs.Run.{at-run, run-within, in-run}
-use Rattle.groups.proofs.Standing.{front-group, reading-count}
-use Rattle.uleb128.specs.Unsigned.{u64}
-use Rattle.sleb128.specs.Signed.{i64}
-use Rattle.blocks.specs.Block.{Val, unsigned, signed, Stepped, number, gap, tail, finished, refuses, says, saysBy}
-use Rattle.blocks.specs.Promise.{meaning, Steps}
+use Rattle.groups.proofs.Run.{at-run, run-within}
+use Rattle.blocks.specs.Block.{Val}
+use Rattle.blocks.specs.Promise.{valueOf}
 use Rattle.blocks.specs.Cut.{cut}
 use Rattle.blocks.specs.declared.Rule.{Rule}
-use Rattle.blocks.specs.declared.Rule.the-variants.{Unsigned, Signed}
 use Rattle.blocks.specs.declared.Step.{Step}
-use Rattle.blocks.specs.declared.SetDown.the-variants as D
+use Rattle.blocks.specs.declared.Step.the-variants as S
 use Rattle.blocks.proofs.Cuts.{cut-group, cut-tail}
 use Rattle.claims.specs.Listed.{placed, listed}
-use Rattle.claims.specs.Blocks.{Start, GroupAt, TailAt}
-use Rattle.claims.specs.Readings.{Block, valued, readBy, told, Reads, at-end, at-tail, at-number, at-gap, ReaderFrom}
-use Rattle.claims.proofs.Stepped.{step-rows, kind, kind-group}
-use Rattle.claims.proofs.Answered.{answered}
+use Rattle.claims.specs.Blocks.{Start, GroupAt, TailAt, readBy, GroupReads, StepRefused, StepRow}
+use Rattle.claims.specs.Readings.{Block, told, Reads, at-end, at-tail, at-number, at-gap, ReaderFrom}
+use Rattle.claims.proofs.Rows.{high-run}
+use Rattle.claims.proofs.Stepped.{run-of, group-is, group-ends, row-steps, row-found, step-rows}
 use Rattle.claims.proofs.Listed.{from-start}
 
--- what is given of an answer, and where the cursor is then
-abbrev given : ℕ → Stepped → ℕ × ℕ × Answer Val
-given p (number v n q) = (p, n, gives v)
-given p (gap k n q) = (p, n, refused k)
-given p (tail n q) = (p, n, refused 0)
-given p (finished q) = (p, 0, refused 0)
-given p (refuses k) = (p, 0, refused k)
+-- the place behind a group
+module _ {s : List ℕ} {p : ℕ} {g : List ℕ} (k : GroupAt s p g) where
+  long : length g ≡ run (drop p s) + 1
+  long = omega (arith, run-of k, group-length (k .is-group))
 
-abbrev behind : Stepped → ℕ
-behind (number v n q) = q
-behind (gap k n q) = q
-behind (tail n q) = q
-behind (finished q) = q
-behind (refuses k) = 0
+  next-start : Start s (p + length g)
+  next-start =
+      let e : p + length g - 1 ≡ p + run (drop p s) = omega (arith, long) in
+      record {
+        here = omega (arith, long, group-ends k);
+        behind = inr (omega (arith, long), rw (e, ← (getD-drop p s (run (drop p s)) 0)) (at-run (drop p s) (omega (arith, group-ends k, length-drop p s))));
+      }
 
--- of a group: its count, its reading, and the cursor past it
-module _ {A : Type 0} (f : A → Val) (n p : ℕ) where
-  given-says : (a : Answer (A × ℕ)) → ((v : A) (m : ℕ) → a ≡ gives (v, m) → m ≡ n)
-      → (given p (says f a n p) ≡ (p, n, valued f a)) × (behind (says f a n p) ≡ p + n)
-  given-says (gives v) h = let e : v .1 ≡ n = h (v .0) (v .1) refl in (rw e, rw e)
-  given-says (refused k) h = (refl, refl)
+module _ (f : ℕ → Rule) (s : List ℕ) where
+  -- what is told from a place on
+  abbrev from-here : ℕ → List (ℕ × ℕ × Answer Val)
+  from-here p = told f (placed p (cut (drop p s) .groups))
 
-given-group : (rule : Rule) (g : List ℕ) (p : ℕ) → Group g
-    → (given p (saysBy rule g p) ≡ (p, length g, readBy rule g)) × (behind (saysBy rule g p) ≡ p + length g)
-given-group Unsigned g p k = given-says unsigned (length g) p (reading u64 g) (λ v m e. omega (arith, reading-count u64 g e, group-length k))
-given-group Signed g p k = given-says signed (length g) p (reading i64 g) (λ v m e. omega (arith, reading-count i64 g e, group-length k))
+  at-group : (p : ℕ) (g : List ℕ) → GroupAt s p g → from-here p ≡ (p, length g, readBy (f p) g) ∷ from-here (p + length g)
+  at-group p g k =
+      let d : drop (run (drop p s) + 1) (drop p s) ≡ drop (p + length g) s =
+      drop-drop (run (drop p s) + 1) p s ∙ ap (λ (i : ℕ). drop (p + i) s) (sym (long k)) in
+      rw (cut-group (drop p s) (omega (arith, group-ends k, length-drop p s)), d, group-is k) refl
 
-module _ (f : ℕ → Rule) (s : List ℕ) (block : Block s) where
-  -- a start has a group behind it, or no group is left
-  module _ (p : ℕ) (k : Start s p) where
-    group-here : run (drop p s) < length (drop p s) → GroupAt s p (take (run (drop p s) + 1) (drop p s))
-    group-here c = record {
-      start = k;
-      is-group = front-group (drop p s) (λ i. rw (getD-drop p s i 0) (block .bytes (p + i))) c;
-      there = rw (length-take-le (run (drop p s) + 1) (drop p s) (omega arith));
-    }
+  no-group : (p : ℕ) → length (drop p s) ≤ run (drop p s) → from-here p ≡ []
+  no-group p c = rw (cut-tail (drop p s) (omega (arith, run-within (drop p s)))) refl
 
-    long : run (drop p s) < length (drop p s) → length (take (run (drop p s) + 1) (drop p s)) ≡ run (drop p s) + 1
-    long c = length-take-le (run (drop p s) + 1) (drop p s) (omega arith)
+  no-group-at-end : (p : ℕ) → p ≡ length s → from-here p ≡ []
+  no-group-at-end p e = no-group p (omega (arith, length-drop p s))
 
-    next-start : run (drop p s) < length (drop p s) → Start s (p + length (take (run (drop p s) + 1) (drop p s)))
-    next-start c =
-        let e : p + length (take (run (drop p s) + 1) (drop p s)) - 1 ≡ p + run (drop p s) = omega (arith, long c) in
-        record {
-          here = omega (arith, length-drop p s, long c);
-          behind = inr (omega (arith, long c), rw (e, ← (getD-drop p s (run (drop p s)) 0)) (at-run (drop p s) c));
-        }
+  no-group-in-tail : (p : ℕ) → TailAt s p → from-here p ≡ []
+  no-group-in-tail p k = no-group p (high-run (drop p s) (length (drop p s)) (omega arith) (rw (take-length (drop p s)) (k .high)))
 
-    -- the groups from here on: this one, and those behind it
-    cut-here : run (drop p s) < length (drop p s)
-        → told f (placed p (cut (drop p s) .groups))
-        ≡ (p, length (take (run (drop p s) + 1) (drop p s)), readBy (f p) (take (run (drop p s) + 1) (drop p s)))
-        ∷ told f (placed (p + length (take (run (drop p s) + 1) (drop p s))) (cut (drop (p + length (take (run (drop p s) + 1) (drop p s))) s) .groups))
-    cut-here c =
-        let d : drop (run (drop p s) + 1) (drop p s) ≡ drop (p + length (take (run (drop p s) + 1) (drop p s))) s =
-        drop-drop (run (drop p s) + 1) p s ∙ ap (λ (i : ℕ). drop (p + i) s) (sym (long c)) in
-        rw (cut-group (drop p s) c, d) refl
+  one-given : (p n q : ℕ) (a : Answer Val) (l : List (ℕ × ℕ × Answer Val)) → GroupReads (f p) s p a n q → (Start s q → l ≡ from-here q) → (p, n, a) ∷ l ≡ from-here p
+  one-given p n q a l k ih =
+      rw (k .count, ← (k .reads), ih (rw (k .next) (next-start (k .stands))), k .next) (sym (at-group p (k .group) (k .stands)))
 
-    cut-none : length (drop p s) ≤ run (drop p s) → told f (placed p (cut (drop p s) .groups)) ≡ []
-    cut-none c = rw (cut-tail (drop p s) (omega (arith, run-within (drop p s)))) refl
+  module _ (block : Block s) where
+    all-given : (p : ℕ) (l : List (ℕ × ℕ × Answer Val)) → Start s p → Reads f s p l → l ≡ from-here p
+    all-given p _ k (at-end _ c a) = sym (no-group-at-end p (step-rows (f p) s p (S.Finished c) (block .bytes) .0 a .1))
+    all-given p _ k (at-tail _ n c a) = sym (no-group-in-tail p (step-rows (f p) s p (S.Tail n c) (block .bytes) .0 a .1))
+    all-given p _ k (at-number _ v n c l a rest) =
+        one-given p (n .0) (c .place .0) (gives (valueOf v)) l (step-rows (f p) s p (S.Number v n c) (block .bytes) .0 a .1) (λ j. all-given (c .place .0) l j rest)
+    all-given p _ k (at-gap _ why n c l a rest) =
+        one-given p (n .0) (c .place .0) (refused (numberOf why)) l (step-rows (f p) s p (S.Gap why n c) (block .bytes) .0 a .1) (λ j. all-given (c .place .0) l j rest)
 
-    module _ (r : Step) (a : Steps (f p) s p r) where
-      says-group : run (drop p s) < length (drop p s) → meaning r ≡ saysBy (f p) (take (run (drop p s) + 1) (drop p s)) p
-      says-group c = step-rows (f p) s p r (block .bytes) a .in-group (take (run (drop p s) + 1) (drop p s)) (block .short) (group-here c)
+    -- from a start a step does not refuse
+    no-refusal : (p : ℕ) → Start s p → (why : Refusal) → StepRefused why s p → ⊥
+    no-refusal p k TooLong h = omega (arith, block .short)
+    no-refusal p k Place h = omega (arith, h .1, k .here)
+    no-refusal p k NotAStart h = h .2 k
+    no-refusal p k End h = h
+    no-refusal p k Overflow h = h
+    no-refusal p k NotShortest h = h
+    no-refusal p k NoRoom h = h
+    no-refusal p k NoStart h = h
 
-      -- without a group, the tail or the end
-      says-none : length (drop p s) ≤ run (drop p s) → (meaning r ≡ tail (length s - p) p) ⊎ (meaning r ≡ finished p)
-      says-none c =
-          let rows = step-rows (f p) s p r (block .bytes) a in
-          by-order p (length s)
-          (λ h.
-          let t : TailAt s p = record { start = k; some = h; high = λ i j. in-run (drop p s) i (omega arith) } in
-          inl (rows .in-tail .1 (block .short, t)))
-          (λ h. inr (rows .ended .1 (block .short, omega (arith, k .here))))
+    further : {p n q : ℕ} {a : Answer Val} → GroupReads (f p) s p a n q → (p < q) × Start s q
+    further k = (omega (arith, k .next, long (k .stands)), rw (k .next) (next-start (k .stands)))
 
-  -- what a number or a gap gives is a group's: its count and its reading, and the cursor past it
-  gave : (p : ℕ) (k : Start s p) (r : Step) → Steps (f p) s p r → kind (meaning r) ≡ 0
-      → (run (drop p s) < length (drop p s))
-      × (given p (meaning r) ≡ (p, length (take (run (drop p s) + 1) (drop p s)), readBy (f p) (take (run (drop p s) + 1) (drop p s))))
-      × (behind (meaning r) ≡ p + length (take (run (drop p s) + 1) (drop p s)))
-  gave p k r a z =
-      by-order (run (drop p s)) (length (drop p s))
-      (λ c.
-      let g = given-group (f p) (take (run (drop p s) + 1) (drop p s)) p (group-here p k c .is-group) in
-      let e = says-group p k r a c in
-      (c, ap (given p) e ∙ g .0, ap behind e ∙ g .1))
-      (λ c. ⊎-elim (λ (t : meaning r ≡ tail (length s - p) p). let n : _≡_ {A = ℕ} 1 0 = sym (ap kind t) ∙ z in absurd (omega arith))
-      (λ (t : meaning r ≡ finished p). let n : _≡_ {A = ℕ} 2 0 = sym (ap kind t) ∙ z in absurd (omega arith)) (says-none p k r a c))
+    ends-by : (p : ℕ) → Start s p → ((q : ℕ) → p < q → Start s q → Reads f s q (from-here q)) → (r : Step) → StepRow (f p) s p r → Reads f s p (from-here p)
+    ends-by p k ih (S.Finished c) row = rw (no-group-at-end p (row .1)) (at-end p c (row-steps (f p) s p (S.Finished c) row))
+    ends-by p k ih (S.Tail n c) row = rw (no-group-in-tail p (row .1)) (at-tail p n c (row-steps (f p) s p (S.Tail n c) row))
+    ends-by p k ih (S.Refused why) row = absurd (no-refusal p k why row)
+    ends-by p k ih (S.Number v n c) row =
+        let q = c .place .0 in
+        let b = further (row .1) in
+        subst (Reads f s p) (one-given p (n .0) q (gives (valueOf v)) (from-here q) (row .1) (λ j. refl))
+        (at-number p v n c (from-here q) (row-steps (f p) s p (S.Number v n c) row) (ih q (b .0) (b .1)))
+    ends-by p k ih (S.Gap why n c) row =
+        let q = c .place .0 in
+        let b = further (row .1) in
+        subst (Reads f s p) (one-given p (n .0) q (refused (numberOf why)) (from-here q) (row .1) (λ j. refl))
+        (at-gap p why n c (from-here q) (row-steps (f p) s p (S.Gap why n c) row) (ih q (b .0) (b .1)))
 
-  -- and the tail or the end is where no group is left
-  left : (p : ℕ) (k : Start s p) (r : Step) → Steps (f p) s p r → 0 < kind (meaning r) → told f (placed p (cut (drop p s) .groups)) ≡ []
-  left p k r a z =
-      by-order (run (drop p s)) (length (drop p s))
-      (λ c. absurd (omega (arith, ap kind (says-group p k r a c) ∙ kind-group (f p) (take (run (drop p s) + 1) (drop p s)) p)))
-      (λ c. cut-none p k c)
+    ends : (n p : ℕ) → length s - p < n → Start s p → Reads f s p (from-here p)
+    ends zero p h k = absurd (omega arith)
+    ends (suc n) p h k =
+        let found = row-found (f p) s p (block .bytes) in
+        ends-by p k (λ q l j. ends n q (omega (arith, l, j .here)) j) (found .0) (found .1)
 
-  one-given : (p q : ℕ) (k : Start s p) (r : Step) (m : Stepped) (l : List (ℕ × ℕ × Answer Val)) → Steps (f p) s p r → meaning r ≡ m → kind m ≡ 0 → behind m ≡ q
-      → (Start s q → l ≡ told f (placed q (cut (drop q s) .groups))) → given p m ∷ l ≡ told f (placed p (cut (drop p s) .groups))
-  one-given p q k r m l a e z b ih =
-      let t = gave p k r a (ap kind e ∙ z) in
-      let n : q ≡ p + length (take (run (drop p s) + 1) (drop p s)) = sym b ∙ ap behind (sym e) ∙ t .2 in
-      rw (← e, t .1, ih (subst (Start s) (sym n) (next-start p k (t .0))), n) (sym (cut-here p k (t .0)))
-
-  all-given : (p : ℕ) (l : List (ℕ × ℕ × Answer Val)) → Start s p → Reads f s p l → l ≡ told f (placed p (cut (drop p s) .groups))
-  all-given p _ k (at-end _ r a e) = sym (left p k r a (rw e (omega arith)))
-  all-given p _ k (at-tail _ n r a e) = sym (left p k r a (rw e (omega arith)))
-  all-given p _ k (at-number _ q n v r l a e rest) = one-given p q k r (number v n q) l a e refl refl (λ j. all-given q l j rest)
-  all-given p _ k (at-gap _ q n w r l a e rest) = one-given p q k r (gap w n q) l a e refl refl (λ j. all-given q l j rest)
-
-  -- and there is such a reading: each step has an answer, and each group some byte
-  goes-on : (p : ℕ) (r : Step) (m : Stepped) (l : List (ℕ × ℕ × Answer Val)) → Steps (f p) s p r → meaning r ≡ m → kind m ≡ 0
-      → Reads f s (behind m) l → Reads f s p (given p m ∷ l)
-  goes-on p r (number v n q) l a e z rest = at-number p q n v r l a e rest
-  goes-on p r (gap k n q) l a e z rest = at-gap p q n k r l a e rest
-  goes-on p r (tail n q) l a e z rest = absurd (omega arith)
-  goes-on p r (finished q) l a e z rest = absurd (omega arith)
-  goes-on p r (refuses k) l a e z rest = absurd (omega arith)
-
-  ends : (n p : ℕ) → length s - p < n → Start s p → Reads f s p (told f (placed p (cut (drop p s) .groups)))
-  ends zero p h k = absurd (omega arith)
-  ends (suc n) p h k =
-      let a = answered (f p) s p (block .bytes) in
-      by-order (run (drop p s)) (length (drop p s))
-      (λ c.
-      let e = says-group p k (a .0) (a .1) c in
-      let t = gave p k (a .0) (a .1) (ap kind e ∙ kind-group (f p) (take (run (drop p s) + 1) (drop p s)) p) in
-      rw (cut-here p k c, ← (t .1))
-      (goes-on p (a .0) (meaning (a .0)) _ (a .1) refl (ap kind e ∙ kind-group (f p) (take (run (drop p s) + 1) (drop p s)) p)
-      (rw (t .2) (ends n (p + length (take (run (drop p s) + 1) (drop p s))) (omega (arith, long p k c, length-drop p s)) (next-start p k c)))))
-      (λ c. rw (cut-none p k c)
-      (⊎-elim (λ (t : meaning (a .0) ≡ tail (length s - p) p). at-tail p (length s - p) (a .0) (a .1) t)
-      (λ (t : meaning (a .0) ≡ finished p). at-end p (a .0) (a .1) t) (says-none p k (a .0) (a .1) c)))
-
-  -- together, from any start
-  module _ (p : ℕ) (l : List (ℕ × ℕ × Answer Val)) (k : Start s p) where
-    pub exactly : Reads f s p l ↔ (l ≡ told f (placed p (cut (drop p s) .groups)))
-    exactly = (all-given p l k, λ e. rw e (ends (suc (length s - p)) p (omega arith) k))
+    pub exactly : (p : ℕ) (l : List (ℕ × ℕ × Answer Val)) → Start s p → Reads f s p l ↔ (l ≡ told f (placed p (cut (drop p s) .groups)))
+    exactly p l k = (all-given p l k, λ e. rw e (ends (suc (length s - p)) p (omega arith) k))
 
 -- the same groups, said in another way
 pub as-groups : {X : Type 0} (f : ℕ → Rule) {l : List (ℕ × ℕ × Answer Val)} {ks ms : List (ℕ × ℕ × List ℕ)} → ks ≡ ms → X ↔ (l ≡ told f ms) → X ↔ (l ≡ told f ks)

@@ -1,6 +1,7 @@
 -- An answer is determined by what it means.
 use Prim.Native.Nat.{ℕ}
-use mathlib.Core.Path.{_≡_, refl, ap, sym, _∙_}
+use mathlib.Core.Path.{_≡_, refl, ap, sym, _∙_, subst}
+use mathlib.Core.Logic.{_↔_}
 use native.Mathlib.Omega.{arith}
 use lib.Dec.{eqb}
 use lib.IntN.{ℤ}
@@ -63,75 +64,49 @@ given-value {A} {a} {b} {m} {n} e = let q : _≡_ {A = A × ℕ} (a, m) (b, n) =
 pub given-count : {A : Type 0} {a b : A} {m n : ℕ} → _≡_ {A = Answer (A × ℕ)} (gives (a, m)) (gives (b, n)) → m ≡ n
 given-count {A} {a} {b} {m} {n} e = let q : _≡_ {A = A × ℕ} (a, m) (b, n) = cc in ap (λ (x : A × ℕ). x .1) q
 
+-- a promise that is met by one answer at most, whose rows meet it, and one of whose rows holds, is met exactly where a row holds
+pub by-rows : {R : Type 0} {Promise Row : R → Type 0} → ((r r′ : R) → Promise r → Promise r′ → r ≡ r′) → ((r : R) → Row r → Promise r)
+    → (r : R) × Row r → (r : R) → Promise r ↔ Row r
+by-rows {R} {Promise} {Row} one meets found r = (λ p. subst Row (one (found .0) r (meets (found .0) (found .1)) p) (found .1), meets r)
+
 -- what has a way back from its meaning is determined by it
 same-by : {A R : Type 0} (means : R → A) (back : A → R) → ((r : R) → back (means r) ≡ r) → (r r′ : R) → means r ≡ means r′ → r ≡ r′
 same-by means back is r r′ e = sym (is r) ∙ ap back e ∙ is r′
 
-pub same-written : (r r′ : Written) → meaning r ≡ meaning r′ → r ≡ r′
-same-written = same-by meaning back is
-  where
-    back : Answer ℕ → Written
-    back (gives n) = W.Bytes (record { 0 = n })
-    back (refused k) = W.Refused (refusalOf k)
+-- the way back to an answer of two kinds
+abbrev back : {A R : Type 0} → (A → R) → (Refusal → R) → Answer A → R
+back give refuse (gives a) = give a
+back give refuse (refused k) = refuse (refusalOf k)
 
-    is : (r : Written) → back (meaning r) ≡ r
-    is (W.Bytes n) = refl
-    is (W.Refused a) = ap W.Refused (refusal-back a)
+pub same-written : (r r′ : Written) → meaning r ≡ meaning r′ → r ≡ r′
+same-written =
+    same-by meaning (back (λ (n : ℕ). W.Bytes (record { 0 = n })) W.Refused)
+    (λ r. elim r [ W.Bytes n ↦ refl | W.Refused a ↦ ap W.Refused (refusal-back a) ])
 
 pub same64 : (r r′ : ReadU64) → meaning64 r ≡ meaning64 r′ → r ≡ r′
-same64 = same-by meaning64 back is
-  where
-    back : Answer (ℕ × ℕ) → ReadU64
-    back (gives p) = R64.Number (p .0) (record { 0 = p .1 })
-    back (refused k) = R64.Refused (refusalOf k)
-
-    is : (r : ReadU64) → back (meaning64 r) ≡ r
-    is (R64.Number v n) = refl
-    is (R64.Refused a) = ap R64.Refused (refusal-back a)
+same64 =
+    same-by meaning64 (back (λ (p : ℕ × ℕ). R64.Number (p .0) (record { 0 = p .1 })) R64.Refused)
+    (λ r. elim r [ R64.Number v n ↦ refl | R64.Refused a ↦ ap R64.Refused (refusal-back a) ])
 
 pub same32 : (r r′ : ReadU32) → meaning32 r ≡ meaning32 r′ → r ≡ r′
-same32 = same-by meaning32 back is
-  where
-    back : Answer (ℕ × ℕ) → ReadU32
-    back (gives p) = R32.Number (p .0) (record { 0 = p .1 })
-    back (refused k) = R32.Refused (refusalOf k)
-
-    is : (r : ReadU32) → back (meaning32 r) ≡ r
-    is (R32.Number v n) = refl
-    is (R32.Refused a) = ap R32.Refused (refusal-back a)
+same32 =
+    same-by meaning32 (back (λ (p : ℕ × ℕ). R32.Number (p .0) (record { 0 = p .1 })) R32.Refused)
+    (λ r. elim r [ R32.Number v n ↦ refl | R32.Refused a ↦ ap R32.Refused (refusal-back a) ])
 
 pub same-i64 : (r r′ : ReadI64) → meaningI64 r ≡ meaningI64 r′ → r ≡ r′
-same-i64 = same-by meaningI64 back is
-  where
-    back : Answer (ℤ × ℕ) → ReadI64
-    back (gives p) = RI64.Number (p .0) (record { 0 = p .1 })
-    back (refused k) = RI64.Refused (refusalOf k)
-
-    is : (r : ReadI64) → back (meaningI64 r) ≡ r
-    is (RI64.Number v n) = refl
-    is (RI64.Refused a) = ap RI64.Refused (refusal-back a)
+same-i64 =
+    same-by meaningI64 (back (λ (p : ℤ × ℕ). RI64.Number (p .0) (record { 0 = p .1 })) RI64.Refused)
+    (λ r. elim r [ RI64.Number v n ↦ refl | RI64.Refused a ↦ ap RI64.Refused (refusal-back a) ])
 
 pub same-set : (r r′ : SetDown) → meaningSet r ≡ meaningSet r′ → r ≡ r′
-same-set = same-by meaningSet back is
-  where
-    back : Answer ℕ → SetDown
-    back (gives p) = D.At (record { place = record { 0 = p } })
-    back (refused k) = D.Refused (refusalOf k)
-
-    is : (r : SetDown) → back (meaningSet r) ≡ r
-    is (D.At c) = refl
-    is (D.Refused a) = ap D.Refused (refusal-back a)
+same-set =
+    same-by meaningSet (back (λ (p : ℕ). D.At (record { place = record { 0 = p } })) D.Refused)
+    (λ r. elim r [ D.At c ↦ refl | D.Refused a ↦ ap D.Refused (refusal-back a) ])
 
 pub same-list : (r r′ : ReadList) → meaningList r ≡ meaningList r′ → r ≡ r′
-same-list = same-by meaningList back is
-  where
-    back : Answer ℕ → ReadList
-    back (gives n) = L.Filled (record { 0 = n })
-    back (refused k) = L.Refused (refusalOf k)
-
-    is : (r : ReadList) → back (meaningList r) ≡ r
-    is (L.Filled n) = refl
-    is (L.Refused a) = ap L.Refused (refusal-back a)
+same-list =
+    same-by meaningList (back (λ (n : ℕ). L.Filled (record { 0 = n })) L.Refused)
+    (λ r. elim r [ L.Filled n ↦ refl | L.Refused a ↦ ap L.Refused (refusal-back a) ])
 
 pub same-step : (r r′ : Step) → meaningStep r ≡ meaningStep r′ → r ≡ r′
 same-step = same-by meaningStep back is

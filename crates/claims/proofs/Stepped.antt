@@ -1,32 +1,41 @@
--- Each answer of a step exactly when its row holds: by which row a block and a place are in.
+-- Each answer of a step exactly when its row holds.
+--
+--   row-steps   where its row holds, an answer is a step's
+--   row-found   one of the rows holds
 use Prim.Native.Nat.{ℕ, _+_, _-_, _≤_, _<_}
-use mathlib.Core.Path.{_≡_, refl, ap, sym, _∙_, subst}
+use mathlib.Core.Path.{_≡_, refl, ap, sym, _∙_}
 use mathlib.Core.List.{List, _++_}
 use mathlib.Core.Bool.{true}
-use mathlib.Core.Logic.{inl, inr, ⊎-elim}
+use mathlib.Core.Logic.{_↔_, inl, inr, ⊎-elim}
 use native.Mathlib.Omega.{arith}
 use borrow.Author.Tests.{lt-ltb, eq-eqb, ne-eqb, ltb-true}
 use lib.ListN.{length, getD, take, drop, length-append, length-drop, take-append-drop}
 use lib.Seq.{length-take-le, getD-drop, take-length}
 use Rattle.words.specs.Answer.{Answer, gives, refused}
+use Rattle.words.specs.Refusal.{numberOf}
+use Rattle.words.specs.declared.Count.{Count}
+use Rattle.words.specs.declared.Refusal.{Refusal}
+use Rattle.words.specs.declared.Refusal.the-variants.{End, Overflow, NotShortest, Place, NoRoom, NotAStart, TooLong, NoStart}
 use Rattle.words.proofs.Cases.{by-order, by-test, clash}
-use Rattle.groups.specs.Group.{Bytes, run}
-use Rattle.groups.specs.Width.{reading}
+use Rattle.groups.specs.Group.{Bytes, Group, run}
+use Rattle.groups.specs.Width.{Width, reading, runsOut, tooLarge, tooMany}
 use Rattle.groups.proofs.Run.{run-within}
 use Rattle.groups.proofs.Exact.{group-length}
-use Rattle.groups.proofs.Standing.{front-group, run-behind}
+use Rattle.groups.proofs.Standing.{front-group, run-behind, reading-count}
 use Rattle.uleb128.specs.Unsigned.{u64}
 use Rattle.sleb128.specs.Signed.{i64}
-use Rattle.blocks.specs.Block.{block-limit, isStart, Val, unsigned, signed, Stepped, number, gap, tail, finished, refuses, says, saysBy, stepping}
-use Rattle.blocks.specs.Promise.{meaning, Steps}
-use Rattle.blocks.specs.declared.Value.the-variants as N
+use Rattle.blocks.specs.Block.{block-limit, isStart, Val, unsigned, signed, number, gap, says, saysBy, stepping}
+use Rattle.blocks.specs.Promise.{valueOf, Steps}
+use Rattle.blocks.specs.declared.Cursor.{Cursor}
 use Rattle.blocks.specs.declared.Rule.{Rule}
 use Rattle.blocks.specs.declared.Rule.the-variants.{Unsigned, Signed}
 use Rattle.blocks.specs.declared.Step.{Step}
 use Rattle.blocks.specs.declared.Step.the-variants as S
+use Rattle.blocks.specs.declared.Value.the-variants as N
 use Rattle.blocks.proofs.Rows.{step-too-long, step-past, step-finished, step-not-a-start, step-tail, group-says}
-use Rattle.claims.specs.Blocks.{Start, GroupAt, TailAt, StepRows}
+use Rattle.claims.specs.Blocks.{Start, GroupAt, TailAt, valued, readBy, GroupReads, StepRefused, StepRow}
 use Rattle.claims.proofs.Rows.{high-run, run-high}
+use Rattle.claims.proofs.Same.{apart, same-step, by-rows}
 
 -- the test for a start
 start-true : {s : List ℕ} {p : ℕ} → Start s p → isStart s p ≡ true
@@ -48,7 +57,7 @@ module _ {s : List ℕ} {p : ℕ} {g : List ℕ} (k : GroupAt s p g) where
   split : drop p s ≡ g ++ drop (length g) (drop p s)
   split = sym (take-append-drop (length g) (drop p s)) ∙ ap (λ (t : List ℕ). t ++ drop (length g) (drop p s)) (k .there)
 
-  run-of : run (drop p s) ≡ run g
+  pub run-of : run (drop p s) ≡ run g
   run-of = ap run split ∙ run-behind (drop (length g) (drop p s)) (k .is-group)
 
   pub group-is : take (run (drop p s) + 1) (drop p s) ≡ g
@@ -64,48 +73,98 @@ module _ {s : List ℕ} {p : ℕ} {g : List ℕ} (k : GroupAt s p g) where
         ap length split ∙ length-append g (drop (length g) (drop p s)),
       )
 
--- the row that a block and a place are in
-pub data Which (rule : Rule) (s : List ℕ) (p : ℕ) : Stepped → Type 0 where
-  long : block-limit < length s → Which rule s p (refuses 7)
-  past : length s ≤ block-limit → length s < p → Which rule s p (refuses 4)
-  end : length s ≤ block-limit → p ≡ length s → Which rule s p (finished p)
-  middle : length s ≤ block-limit → p < length s → (Start s p → ⊥) → Which rule s p (refuses 6)
-  in-tail : length s ≤ block-limit → TailAt s p → Which rule s p (tail (length s - p) p)
-  in-group : (g : List ℕ) → length s ≤ block-limit → GroupAt s p g → Which rule s p (saysBy rule g p)
+-- what a group's reading makes a step say
+module _ {A : Type 0} (f : A → Val) (n p : ℕ) where
+  says-number : (w : Val) (a : Answer (A × ℕ)) → ((v : A) (m : ℕ) → a ≡ gives (v, m) → m ≡ n) → valued f a ≡ gives w → number w n (p + n) ≡ says f a n p
+  says-number w (gives v) h e = let m : v .1 ≡ n = h (v .0) (v .1) refl in let q : f (v .0) ≡ w = cc in rw (q, m)
+  says-number w (refused k) h e = apart (sym e)
+
+  says-gap : (k : ℕ) (a : Answer (A × ℕ)) → valued f a ≡ refused k → gap k n (p + n) ≡ says f a n p
+  says-gap k (gives v) e = apart e
+  says-gap k (refused j) e = let q : j ≡ k = cc in rw q
+
+number-said : (rule : Rule) (g : List ℕ) (p : ℕ) (w : Val) → Group g → readBy rule g ≡ gives w → number w (length g) (p + length g) ≡ saysBy rule g p
+number-said Unsigned g p w k = says-number unsigned (length g) p w (reading u64 g) (λ v m e. omega (arith, reading-count u64 g e, group-length k))
+number-said Signed g p w k = says-number signed (length g) p w (reading i64 g) (λ v m e. omega (arith, reading-count i64 g e, group-length k))
+
+gap-said : (rule : Rule) (g : List ℕ) (p k : ℕ) → readBy rule g ≡ refused k → gap k (length g) (p + length g) ≡ saysBy rule g p
+gap-said Unsigned g p k = says-gap unsigned (length g) p k (reading u64 g)
+gap-said Signed g p k = says-gap signed (length g) p k (reading i64 g)
 
 module _ (rule : Rule) (s : List ℕ) (p : ℕ) where
-  -- what each row answers
-  says-end : length s ≤ block-limit → p ≡ length s → finished p ≡ stepping rule s p
-  says-end f e = step-finished rule s p f (record { place = record { 0 = p } }) refl (omega arith) (omega arith) .is
-
-  says-middle : length s ≤ block-limit → p < length s → (Start s p → ⊥) → refuses 6 ≡ stepping rule s p
-  says-middle f h n =
-      by-test (isStart s p) (λ t. absurd (n (true-start s p (omega arith) t))) (λ t. step-not-a-start rule s p f h t .is)
-
-  says-tail : length s ≤ block-limit → TailAt s p → tail (length s - p) p ≡ stepping rule s p
-  says-tail f k =
-      let l = drop p s in
-      let h : length l ≤ run l = high-run l (length l) (omega arith) (rw (take-length l) (k .high)) in
-      let all : run (drop p s) ≡ length s - p = omega (arith, run-within l, length-drop p s) in
-      step-tail rule s p f (k .some) (start-true (k .start)) (record { 0 = length s - p }) (record { place = record { 0 = p } }) (sym all) refl
-      (omega (arith, k .some)) .is
-
-  says-group : (g : List ℕ) → length s ≤ block-limit → GroupAt s p g → saysBy rule g p ≡ stepping rule s p
+  pub says-group : (g : List ℕ) → length s ≤ block-limit → GroupAt s p g → saysBy rule g p ≡ stepping rule s p
   says-group g f k =
       sym (group-says rule s p f (omega (arith, group-ends k)) (start-true (k .start)) (group-ends k)
       ∙ ap (λ (t : List ℕ). saysBy rule t p) (group-is k))
 
-  pub which : Bytes s → Which rule s p (stepping rule s p)
-  which bytes =
-      by-order block-limit (length s) (λ h. subst (Which rule s p) (step-too-long rule s p h .is) (long h))
+  -- where its row holds, an answer is a step's
+  refused-row : (why : Refusal) → StepRefused why s p → Steps rule s p (S.Refused why)
+  refused-row TooLong h = step-too-long rule s p h
+  refused-row Place h = step-past rule s p (h .0) (h .1)
+  refused-row NotAStart h =
+      by-test (isStart s p) (λ t. absurd (h .2 (true-start s p (omega (arith, h .1)) t))) (λ t. step-not-a-start rule s p (h .0) (h .1) t)
+  refused-row End h = absurd h
+  refused-row Overflow h = absurd h
+  refused-row NotShortest h = absurd h
+  refused-row NoRoom h = absurd h
+  refused-row NoStart h = absurd h
+
+  pub row-steps : (r : Step) → StepRow rule s p r → Steps rule s p r
+  row-steps (S.Refused why) h = refused-row why h
+  row-steps (S.Finished c) h = step-finished rule s p (h .0) c (h .2) (omega (arith, h .1)) (omega (arith, h .1))
+  row-steps (S.Tail n c) h =
+      let l = drop p s in
+      let k : TailAt s p = h .1 in
+      let all : length l ≤ run l = high-run l (length l) (omega arith) (rw (take-length l) (k .high)) in
+      let count : n .0 ≡ run l = omega (arith, run-within l, length-drop p s, h .2) in
+      step-tail rule s p (h .0) (k .some) (start-true (k .start)) n c count (h .3) (omega (arith, h .2))
+  row-steps (S.Number v n c) h =
+      let k : GroupReads rule s p (gives (valueOf v)) (n .0) (c .place .0) = h .1 in
+      record { is = rw (k .count, k .next) (number-said rule (k .group) p (valueOf v) (k .stands .is-group) (k .reads) ∙ says-group (k .group) (h .0) (k .stands)) }
+  row-steps (S.Gap why n c) h =
+      let k : GroupReads rule s p (refused (numberOf why)) (n .0) (c .place .0) = h .1 in
+      record { is = rw (k .count, k .next) (gap-said rule (k .group) p (numberOf why) (k .reads) ∙ says-group (k .group) (h .0) (k .stands)) }
+
+-- a group's reading is one that an answer can tell
+module _ {A X : Type 0} (f : A → Val) (w : Width A) (g : List ℕ) where
+  heard : ((v : A) → valued f (reading w g) ≡ gives (f v) → X) → ((why : Refusal) → valued f (reading w g) ≡ refused (numberOf why) → X) → X
+  unfolding reading
+  heard value fault =
+      by-test (runsOut w g) (λ o. fault End (rw o))
+      (λ o. by-test (tooLarge w g) (λ l. fault Overflow (rw (o, l)))
+      (λ l. by-test (tooMany w g) (λ m. fault NotShortest (rw (o, l, m))) (λ m. value (w .value (take (run g + 1) g)) (rw (o, l, m)))))
+
+abbrev count : ℕ → Count
+count n = record { 0 = n }
+
+abbrev cursor : ℕ → Cursor
+cursor q = record { place = record { 0 = q } }
+
+module _ (s : List ℕ) (p : ℕ) (f : length s ≤ block-limit) (g : List ℕ) (k : GroupAt s p g) where
+  reads : (rule : Rule) (a : Answer Val) → readBy rule g ≡ a → GroupReads rule s p a (length g) (p + length g)
+  reads rule a e = record { group = g; stands = k; reads = e; count = refl; next = refl }
+
+  group-row : (rule : Rule) → (r : Step) × StepRow rule s p r
+  group-row Unsigned =
+      heard unsigned u64 g (λ v e. (S.Number (N.Unsigned v) (count (length g)) (cursor (p + length g)), (f, reads Unsigned (gives (unsigned v)) e)))
+      (λ why e. (S.Gap why (count (length g)) (cursor (p + length g)), (f, reads Unsigned (refused (numberOf why)) e)))
+  group-row Signed =
+      heard signed i64 g (λ v e. (S.Number (N.Signed v) (count (length g)) (cursor (p + length g)), (f, reads Signed (gives (signed v)) e)))
+      (λ why e. (S.Gap why (count (length g)) (cursor (p + length g)), (f, reads Signed (refused (numberOf why)) e)))
+
+-- one of the rows holds
+module _ (rule : Rule) (s : List ℕ) (p : ℕ) where
+  pub row-found : Bytes s → (r : Step) × StepRow rule s p r
+  row-found bytes =
+      by-order block-limit (length s) (λ h. (S.Refused TooLong, h))
       (λ f.
-      by-order (length s) p (λ h. subst (Which rule s p) (step-past rule s p f h .is) (past f h))
+      by-order (length s) p (λ h. (S.Refused Place, (f, h)))
       (λ h.
-      by-order p (length s) (λ l. within bytes f l)
-      (λ l. subst (Which rule s p) (says-end f (omega arith)) (end f (omega arith)))))
+      by-order p (length s) (within f)
+      (λ l. (S.Finished (cursor p), (f, omega arith, refl)))))
     where
-      within : Bytes s → length s ≤ block-limit → p < length s → Which rule s p (stepping rule s p)
-      within bytes f h =
+      within : length s ≤ block-limit → p < length s → (r : Step) × StepRow rule s p r
+      within f h =
           let l = drop p s in
           by-test (isStart s p)
           (λ t.
@@ -116,59 +175,15 @@ module _ (rule : Rule) (s : List ℕ) (p : ℕ) where
             is-group = front-group l (λ i. rw (getD-drop p s i 0) (bytes (p + i))) c;
             there = rw (length-take-le (run l + 1) l (omega arith));
           } in
-          subst (Which rule s p) (says-group (take (run l + 1) l) f k) (in-group (take (run l + 1) l) f k))
+          group-row s p f (take (run l + 1) l) k rule)
           (λ c.
           let k : TailAt s p = record {
             start = true-start s p (omega arith) t;
             some = h;
             high = rw (take-length l) at (run-high l (length l) c);
           } in
-          subst (Which rule s p) (says-tail f k) (in-tail f k)))
-          (λ t. let n : Start s p → ⊥ = λ k. clash t (start-true k) in subst (Which rule s p) (says-middle f h n) (middle f h n))
+          (S.Tail (count (length s - p)) (cursor p), (f, k, omega arith, refl))))
+          (λ t. (S.Refused NotAStart, (f, h, λ k. clash t (start-true k))))
 
--- the kinds of answer, apart: a group says a number or a gap, and nothing else does
-abbrev pub kind : Stepped → ℕ
-kind (number v n p) = 0
-kind (gap k n p) = 0
-kind (tail n p) = 1
-kind (finished p) = 2
-kind (refuses k) = k + 3
-
-kind-says : {A : Type 0} (f : A → Val) (a : Answer (A × ℕ)) (n p : ℕ) → kind (says f a n p) ≡ 0
-kind-says f (gives v) n p = refl
-kind-says f (refused k) n p = refl
-
-pub kind-group : (rule : Rule) (g : List ℕ) (p : ℕ) → kind (saysBy rule g p) ≡ 0
-kind-group Unsigned g p = kind-says unsigned (reading u64 g) (length g) p
-kind-group Signed g p = kind-says signed (reading i64 g) (length g) p
-
--- the row, from the kind of the answer
-record Row (s : List ℕ) (p k : ℕ) : Type 0 where
-  too-long : k ≡ 10 → block-limit < length s
-  beyond : k ≡ 7 → (length s ≤ block-limit) × (length s < p)
-  not-a-start : k ≡ 9 → (length s ≤ block-limit) × (p < length s) × (Start s p → ⊥)
-  ended : k ≡ 2 → (length s ≤ block-limit) × (p ≡ length s)
-  tailed : k ≡ 1 → (length s ≤ block-limit) × TailAt s p
-
-row : {rule : Rule} {s : List ℕ} {p : ℕ} {m : Stepped} → Which rule s p m → Row s p (kind m)
-row (long h) = record { too-long = λ e. h; beyond = λ e. absurd (omega arith); not-a-start = λ e. absurd (omega arith); ended = λ e. absurd (omega arith); tailed = λ e. absurd (omega arith) }
-row (past f h) = record { too-long = λ e. absurd (omega arith); beyond = λ e. (f, h); not-a-start = λ e. absurd (omega arith); ended = λ e. absurd (omega arith); tailed = λ e. absurd (omega arith) }
-row (middle f h n) = record { too-long = λ e. absurd (omega arith); beyond = λ e. absurd (omega arith); not-a-start = λ e. (f, h, n); ended = λ e. absurd (omega arith); tailed = λ e. absurd (omega arith) }
-row (end f h) = record { too-long = λ e. absurd (omega arith); beyond = λ e. absurd (omega arith); not-a-start = λ e. absurd (omega arith); ended = λ e. (f, h); tailed = λ e. absurd (omega arith) }
-row (in-tail f k) = record { too-long = λ e. absurd (omega arith); beyond = λ e. absurd (omega arith); not-a-start = λ e. absurd (omega arith); ended = λ e. absurd (omega arith); tailed = λ e. (f, k) }
-row {rule} {s} {p} (in-group g f k) =
-    rw (kind-group rule g p)
-    (record { too-long = λ e. absurd (omega arith); beyond = λ e. absurd (omega arith); not-a-start = λ e. absurd (omega arith); ended = λ e. absurd (omega arith); tailed = λ e. absurd (omega arith) })
-
-pub step-rows : (rule : Rule) (s : List ℕ) (p : ℕ) (r : Step) → Bytes s → Steps rule s p r → StepRows rule s p r
-step-rows rule s p r bytes k =
-    let w = row (which rule s p bytes) in
-    let of : (m : Stepped) → meaning r ≡ m → kind (stepping rule s p) ≡ kind m = λ m e. ap kind (sym (k .is) ∙ e) in
-    record {
-      too-long = (λ e. w .too-long (of (refuses 7) e), λ h. k .is ∙ sym (step-too-long rule s p h .is));
-      past = (λ e. w .beyond (of (refuses 4) e), λ h. k .is ∙ sym (step-past rule s p (h .0) (h .1) .is));
-      not-a-start = (λ e. w .not-a-start (of (refuses 6) e), λ h. k .is ∙ sym (says-middle rule s p (h .0) (h .1) (h .2)));
-      ended = (λ e. w .ended (of (finished p) e), λ h. k .is ∙ sym (says-end rule s p (h .0) (h .1)));
-      in-tail = (λ e. w .tailed (of (tail (length s - p) p) e), λ h. k .is ∙ sym (says-tail rule s p (h .0) (h .1)));
-      in-group = λ g f h. k .is ∙ sym (says-group rule s p g f h);
-    }
+pub step-rows : (rule : Rule) (s : List ℕ) (p : ℕ) (r : Step) → Bytes s → Steps rule s p r ↔ StepRow rule s p r
+step-rows rule s p r bytes = by-rows (λ r r′ a b. same-step r r′ (a .is ∙ sym (b .is))) (row-steps rule s p) (row-found rule s p bytes) r

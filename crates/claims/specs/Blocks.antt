@@ -3,23 +3,32 @@
 --   Start s p       p is place 0, or just past a byte below 128, up to and including the length of the block
 --   GroupAt s p g   the group g begins at the start p
 --   TailAt s p      a tail begins at the start p
---   StepRows        each answer of a step exactly when its row holds
---   SetDownRows     each answer of a set-down exactly when
---   TurnRows        each meaning of a turn exactly when
-use Prim.Native.Nat.{ℕ, _-_, _≤_, _<_}
+--   readBy          the reading of a group by a rule
+--   GroupReads      a group at a place, its reading, its count of bytes and the place past it
+--   StepRow         the row of each answer of a step; StepRefused: of each refusal
+--   SetDownRow      the row of each answer of a set-down; SetDownRefused: of each refusal
+--   TurnRow         the row of each meaning of a turn
+use Prim.Native.Nat.{ℕ, _+_, _-_, _≤_, _<_}
 use mathlib.Core.Path.{_≡_}
 use mathlib.Core.List.{List}
-use mathlib.Core.Logic.{_↔_, _⊎_}
+use mathlib.Core.Logic.{_⊎_}
 use lib.IntN.{ℤ, pos}
 use lib.ListN.{length, getD, take, drop}
 use lib.Signed.{_<ℤ_}
-use Rattle.words.specs.declared.Refusal.the-variants.{Place, TooLong, NoStart}
+use Rattle.words.specs.Answer.{Answer, gives, refused}
+use Rattle.words.specs.Refusal.{numberOf}
+use Rattle.words.specs.declared.Refusal.{Refusal}
+use Rattle.words.specs.declared.Refusal.the-variants.{End, Overflow, NotShortest, Place, NoRoom, NotAStart, TooLong, NoStart}
 use Rattle.groups.specs.Group.{High, Group}
-use Rattle.blocks.specs.Block.{block-limit, tail, finished, refuses, saysBy}
-use Rattle.blocks.specs.Promise.{meaning}
-use Rattle.blocks.specs.declared.Cursor.{Cursor}
+use Rattle.groups.specs.Width.{reading}
+use Rattle.uleb128.specs.Unsigned.{u64}
+use Rattle.sleb128.specs.Signed.{i64}
+use Rattle.blocks.specs.Block.{block-limit, Val, unsigned, signed}
+use Rattle.blocks.specs.Promise.{valueOf}
 use Rattle.blocks.specs.declared.Rule.{Rule}
+use Rattle.blocks.specs.declared.Rule.the-variants.{Unsigned, Signed}
 use Rattle.blocks.specs.declared.Step.{Step}
+use Rattle.blocks.specs.declared.Step.the-variants as S
 use Rattle.blocks.specs.declared.SetDown.{SetDown}
 use Rattle.blocks.specs.declared.SetDown.the-variants as D
 use Rattle.turns.specs.declared.Turn.{Turn}
@@ -39,25 +48,62 @@ pub record TailAt (s : List ℕ) (p : ℕ) : Type 0 where
   pub some : p < length s
   pub high : High (drop p s)
 
--- 7, 4, 6, Finished and Tail, each exactly when; a group's number or gap is what its own bytes say by the rule, and the cursor is moved
--- past it
-pub record StepRows (rule : Rule) (s : List ℕ) (p : ℕ) (r : Step) : Type 0 where
-  pub too-long : (meaning r ≡ refuses 7) ↔ (block-limit < length s)
-  pub past : (meaning r ≡ refuses 4) ↔ ((length s ≤ block-limit) × (length s < p))
-  pub not-a-start : (meaning r ≡ refuses 6) ↔ ((length s ≤ block-limit) × (p < length s) × (Start s p → ⊥))
-  pub ended : (meaning r ≡ finished p) ↔ ((length s ≤ block-limit) × (p ≡ length s))
-  pub in-tail : (meaning r ≡ tail (length s - p) p) ↔ ((length s ≤ block-limit) × TailAt s p)
-  pub in-group : (g : List ℕ) → length s ≤ block-limit → GroupAt s p g → meaning r ≡ saysBy rule g p
+-- the reading of a group by a rule: its number, or the reason why it has none
+abbrev pub valued : {A : Type 0} → (A → Val) → Answer (A × ℕ) → Answer Val
+valued f (gives v) = gives (f (v .0))
+valued f (refused k) = refused k
 
-pub record SetDownRows (s : List ℕ) (p : ℕ) (r : SetDown) : Type 0 where
-  pub too-long : (r ≡ D.Refused TooLong) ↔ (block-limit < length s)
-  pub past : (r ≡ D.Refused Place) ↔ ((length s ≤ block-limit) × (length s < p))
-  pub none : (r ≡ D.Refused NoStart) ↔ ((length s ≤ block-limit) × (p ≤ length s) × ((q : ℕ) → p ≤ q → Start s q → ⊥))
-  pub least : (c : Cursor) → (r ≡ D.At c)
-      ↔ ((length s ≤ block-limit) × (p ≤ c .place .0) × Start s (c .place .0) × ((q : ℕ) → p ≤ q → q < c .place .0 → Start s q → ⊥))
+abbrev pub readBy : Rule → List ℕ → Answer Val
+readBy Unsigned g = valued unsigned (reading u64 g)
+readBy Signed g = valued signed (reading i64 g)
+
+-- a group of n bytes stands at p, its reading is a, and q is just past it
+pub record GroupReads (rule : Rule) (s : List ℕ) (p : ℕ) (a : Answer Val) (n q : ℕ) : Type 0 where
+  pub group : List ℕ
+  pub stands : GroupAt s p group
+  pub reads : readBy rule group ≡ a
+  pub count : n ≡ length group
+  pub next : q ≡ p + length group
+
+abbrev pub StepRefused : Refusal → List ℕ → ℕ → Type 0
+StepRefused TooLong s p = block-limit < length s
+StepRefused Place s p = (length s ≤ block-limit) × (length s < p)
+StepRefused NotAStart s p = (length s ≤ block-limit) × (p < length s) × (Start s p → ⊥)
+StepRefused End s p = ⊥
+StepRefused Overflow s p = ⊥
+StepRefused NotShortest s p = ⊥
+StepRefused NoRoom s p = ⊥
+StepRefused NoStart s p = ⊥
+
+abbrev pub StepRow : Rule → List ℕ → ℕ → Step → Type 0
+StepRow rule s p (S.Number v n c) = (length s ≤ block-limit) × GroupReads rule s p (gives (valueOf v)) (n .0) (c .place .0)
+StepRow rule s p (S.Gap why n c) = (length s ≤ block-limit) × GroupReads rule s p (refused (numberOf why)) (n .0) (c .place .0)
+StepRow rule s p (S.Tail n c) = (length s ≤ block-limit) × TailAt s p × (p + n .0 ≡ length s) × (c .place .0 ≡ p)
+StepRow rule s p (S.Finished c) = (length s ≤ block-limit) × (p ≡ length s) × (c .place .0 ≡ p)
+StepRow rule s p (S.Refused why) = StepRefused why s p
+
+abbrev pub SetDownRefused : Refusal → List ℕ → ℕ → Type 0
+SetDownRefused TooLong s p = block-limit < length s
+SetDownRefused Place s p = (length s ≤ block-limit) × (length s < p)
+SetDownRefused NoStart s p = (length s ≤ block-limit) × (p ≤ length s) × ((q : ℕ) → p ≤ q → Start s q → ⊥)
+SetDownRefused End s p = ⊥
+SetDownRefused Overflow s p = ⊥
+SetDownRefused NotShortest s p = ⊥
+SetDownRefused NoRoom s p = ⊥
+SetDownRefused NotAStart s p = ⊥
+
+-- q is the least start at p or later
+pub record Least (s : List ℕ) (p q : ℕ) : Type 0 where
+  pub from : p ≤ q
+  pub start : Start s q
+  pub none-before : (j : ℕ) → p ≤ j → j < q → Start s j → ⊥
+
+abbrev pub SetDownRow : List ℕ → ℕ → SetDown → Type 0
+SetDownRow s p (D.At c) = (length s ≤ block-limit) × Least s p (c .place .0)
+SetDownRow s p (D.Refused why) = SetDownRefused why s p
 
 -- What a turn means: above zero is Tighten, below zero is Loosen, zero is Hold.
-pub record TurnRows (v : ℤ) (r : Turn) : Type 0 where
-  pub tighten : (r ≡ Tighten) ↔ (pos 0 <ℤ v)
-  pub loosen : (r ≡ Loosen) ↔ (v <ℤ pos 0)
-  pub hold : (r ≡ Hold) ↔ (v ≡ pos 0)
+abbrev pub TurnRow : ℤ → Turn → Type 0
+TurnRow v Tighten = pos 0 <ℤ v
+TurnRow v Loosen = v <ℤ pos 0
+TurnRow v Hold = v ≡ pos 0

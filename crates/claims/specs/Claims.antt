@@ -17,6 +17,7 @@ use lib.Signed.{_≤ℤ_, _<ℤ_}
 use lib.ListN.{length, take, drop}
 use Rattle.words.specs.Answer.{gives, refused}
 use Rattle.words.specs.Promise.{Numbers}
+use Rattle.words.specs.Refusal.{numberOf}
 use Rattle.words.specs.declared.Count.{Count}
 use Rattle.words.specs.declared.Refusal.{Refusal}
 use Rattle.words.specs.declared.Refusal.the-variants.{NoRoom, TooLong}
@@ -25,7 +26,7 @@ use Rattle.words.specs.declared.Written.the-variants as W
 use Rattle.groups.specs.Begins.{Begins}
 use Rattle.groups.specs.Group.{Bytes, Group, digits}
 use Rattle.groups.specs.Promise.{Walks, Stores}
-use Rattle.groups.specs.Width.{read, tooMany}
+use Rattle.groups.specs.Width.{reading, read, tooMany}
 use Rattle.groups.specs.declared.reading.Walked.{Walked}
 use Rattle.uleb128.specs.Unsigned as unsigned
 use Rattle.uleb128.specs.Promise.{ReadsU64, ReadsU64Rec, WritesU64, WritesU64Rec}
@@ -44,11 +45,11 @@ use Rattle.lists.specs.declared.ReadList.{ReadList}
 use Rattle.lists.specs.declared.ReadList.the-variants as L
 use Rattle.turns.specs.Turns.{Means}
 use Rattle.turns.specs.declared.Turn.{Turn}
-use Rattle.claims.specs.Blocks.{StepRows, SetDownRows, TurnRows}
+use Rattle.claims.specs.Blocks.{StepRow, SetDownRow, TurnRow}
 use Rattle.claims.specs.Readings.{ReaderFrom, ReaderSetDown, FrontLost}
 use Rattle.claims.specs.Damage.{Front, Back, FrontRead, BackRead}
-use Rattle.claims.specs.Strict.{Words, StrictRows}
-use Rattle.claims.specs.Table.{Row}
+use Rattle.claims.specs.Strict.{Words, StrictRow}
+use Rattle.claims.specs.Table.{Row, GapRow}
 use Rattle.claims.specs.Source.{spec-parse, spec-serialize-helper}
 use Rattle.claims.specs.Try.{Starred}
 
@@ -98,6 +99,11 @@ ListBack = (ns before : List ℕ) (at : ℕ) (n : Count) (after old : List ℕ) 
     → Words ns → WritesList ns before at (W.Bytes n) after → n .0 ≤ block-limit → length ns ≤ length old
     → ReadsStrict (take (n .0) (drop at after)) old r out
     → (r ≡ L.Filled (record { 0 = length ns })) × (out ≡ ns ++ drop (length ns) old)
+
+-- A group is read as a number exactly when it is its shortest form, and else is a gap, by row 2 or 3.
+pub record ReadGroup (k : Reader) (g : List ℕ) : Type 0 where
+  pub number : (v : Value k) → (reading (width k) g ≡ gives (v, length g)) ↔ (OfWidth k v × (g ≡ form k v))
+  pub gap : (why : Refusal) → (reading (width k) g ≡ refused (numberOf why)) ↔ GapRow (width k) why g
 
 -- 4. The shortest unsigned form: one byte v if v < 128, else (v mod 128) + 128 followed by the form of v div 128.
 abbrev pub Shortest : Type 0
@@ -219,8 +225,9 @@ pub record Claims : Type 0 where
   pub one-written : (k : Reader) → OneWritten k
   pub one-length : (k : Reader) → OneLength k
   -- blocks: each answer exactly when, and demand 3
-  pub step-rows : (rule : Rule) (s : List ℕ) (p : ℕ) (r : Step) → Bytes s → Steps rule s p r → StepRows rule s p r
-  pub set-down-rows : (s : List ℕ) (p : ℕ) (r : SetDown) → SetsDown s p r → SetDownRows s p r
+  pub read-group : (k : Reader) (g : List ℕ) → Group g → ReadGroup k g
+  pub step-rows : (rule : Rule) (s : List ℕ) (p : ℕ) (r : Step) → Bytes s → Steps rule s p r ↔ StepRow rule s p r
+  pub set-down-rows : (s : List ℕ) (p : ℕ) (r : SetDown) → SetsDown s p r ↔ SetDownRow s p r
   pub damage-front : Front
   pub damage-back : Back
   pub damage-front-read : FrontRead
@@ -231,12 +238,12 @@ pub record Claims : Type 0 where
   pub one-step : (rule : Rule) (s : List ℕ) (p : ℕ) (r r′ : Step) → Steps rule s p r → Steps rule s p r′ → r ≡ r′
   pub one-set-down : (s : List ℕ) (p : ℕ) (r r′ : SetDown) → SetsDown s p r → SetsDown s p r′ → r ≡ r′
   -- lists
-  pub strict-rows : (s old : List ℕ) (r : ReadList) (out : List ℕ) → Bytes s → ReadsStrict s old r out → StrictRows s old r out
+  pub strict-rows : (s old : List ℕ) (r : ReadList) (out : List ℕ) → Bytes s → ReadsStrict s old r out ↔ StrictRow s old r out
   pub writes-list : WritesLists
   pub list-back : ListBack
   pub one-strict : (s old : List ℕ) (r r′ : ReadList) (out out′ : List ℕ) → ReadsStrict s old r out → ReadsStrict s old r′ out′ → (r ≡ r′) × (out ≡ out′)
   pub one-list : (ns s : List ℕ) (at : ℕ) (r r′ : Written) (out out′ : List ℕ) → WritesList ns s at r out → WritesList ns s at r′ out′
       → (r ≡ r′) × (out ≡ out′)
   -- turns
-  pub turn-rows : (v : ℤ) (r : Turn) → Means v r → TurnRows v r
+  pub turn-rows : (v : ℤ) (r : Turn) → Means v r ↔ TurnRow v r
   pub one-turn : (v : ℤ) (r r′ : Turn) → Means v r → Means v r′ → r ≡ r′

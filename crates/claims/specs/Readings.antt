@@ -1,7 +1,6 @@
 -- What a reader gives of a block, step after step.
 --
 --   Block s          the bytes s are a block within the limit
---   readBy rule g    the reading of a group by a rule: its number, or the reason why it has none
 --   told f gs        the readings of the groups gs, each by the rule that f chooses for its place
 --   Reads f s p l    from the place p on, steps by the rules that f chooses give the readings l, each with its place and its count of bytes,
 --                    until one says Tail or Finished
@@ -14,44 +13,36 @@ use mathlib.Core.List.{List, [], _∷_}
 use mathlib.Core.Logic.{_↔_}
 use lib.ListN.{length, drop}
 use Rattle.words.specs.Answer.{Answer, gives, refused}
+use Rattle.words.specs.Refusal.{numberOf}
+use Rattle.words.specs.declared.Count.{Count}
+use Rattle.words.specs.declared.Refusal.{Refusal}
 use Rattle.words.specs.declared.Refusal.the-variants.{NoStart}
 use Rattle.groups.specs.Group.{Bytes}
-use Rattle.groups.specs.Width.{reading}
-use Rattle.uleb128.specs.Unsigned.{u64}
-use Rattle.sleb128.specs.Signed.{i64}
-use Rattle.blocks.specs.Block.{block-limit, Val, unsigned, signed, number, gap, tail, finished}
-use Rattle.blocks.specs.Promise.{meaning, Steps, SetsDown}
+use Rattle.blocks.specs.Block.{block-limit, Val}
+use Rattle.blocks.specs.Promise.{valueOf, Steps, SetsDown}
 use Rattle.blocks.specs.declared.Cursor.{Cursor}
 use Rattle.blocks.specs.declared.Rule.{Rule}
-use Rattle.blocks.specs.declared.Rule.the-variants.{Unsigned, Signed}
-use Rattle.blocks.specs.declared.Step.{Step}
+use Rattle.blocks.specs.declared.Step.the-variants as S
 use Rattle.blocks.specs.declared.SetDown.the-variants as D
-use Rattle.claims.specs.Blocks.{Start}
+use Rattle.blocks.specs.declared.Value.{Value}
+use Rattle.claims.specs.Blocks.{Start, readBy}
 use Rattle.claims.specs.Listed.{listed, from, less}
 
 pub record Block (s : List ℕ) : Type 0 where
   pub bytes : Bytes s
   pub short : length s ≤ block-limit
 
-abbrev pub valued : {A : Type 0} → (A → Val) → Answer (A × ℕ) → Answer Val
-valued f (gives v) = gives (f (v .0))
-valued f (refused k) = refused k
-
-abbrev pub readBy : Rule → List ℕ → Answer Val
-readBy Unsigned g = valued unsigned (reading u64 g)
-readBy Signed g = valued signed (reading i64 g)
-
 abbrev pub told : (ℕ → Rule) → List (ℕ × ℕ × List ℕ) → List (ℕ × ℕ × Answer Val)
 told f [] = []
 told f (k ∷ l) = (k .0, k .1, readBy (f (k .0)) (k .2)) ∷ told f l
 
 pub data Reads (f : ℕ → Rule) (s : List ℕ) : ℕ → List (ℕ × ℕ × Answer Val) → Type 0 where
-  at-end : (p : ℕ) (r : Step) → Steps (f p) s p r → meaning r ≡ finished p → Reads f s p []
-  at-tail : (p n : ℕ) (r : Step) → Steps (f p) s p r → meaning r ≡ tail n p → Reads f s p []
-  at-number : (p q n : ℕ) (v : Val) (r : Step) (l : List (ℕ × ℕ × Answer Val))
-      → Steps (f p) s p r → meaning r ≡ number v n q → Reads f s q l → Reads f s p ((p, n, gives v) ∷ l)
-  at-gap : (p q n k : ℕ) (r : Step) (l : List (ℕ × ℕ × Answer Val))
-      → Steps (f p) s p r → meaning r ≡ gap k n q → Reads f s q l → Reads f s p ((p, n, refused k) ∷ l)
+  at-end : (p : ℕ) (c : Cursor) → Steps (f p) s p (S.Finished c) → Reads f s p []
+  at-tail : (p : ℕ) (n : Count) (c : Cursor) → Steps (f p) s p (S.Tail n c) → Reads f s p []
+  at-number : (p : ℕ) (v : Value) (n : Count) (c : Cursor) (l : List (ℕ × ℕ × Answer Val))
+      → Steps (f p) s p (S.Number v n c) → Reads f s (c .place .0) l → Reads f s p ((p, n .0, gives (valueOf v)) ∷ l)
+  at-gap : (p : ℕ) (why : Refusal) (n : Count) (c : Cursor) (l : List (ℕ × ℕ × Answer Val))
+      → Steps (f p) s p (S.Gap why n c) → Reads f s (c .place .0) l → Reads f s p ((p, n .0, refused (numberOf why)) ∷ l)
 
 -- From a start, a reader gives exactly the groups that begin there or later, in order, each once; every reading ends.
 abbrev pub ReaderFrom : Type 0

@@ -5,6 +5,7 @@
 --   OverflowRow      all earlier bytes are 128 or more, and the byte at the greatest length is outside the table of widths
 --   NotShortestRow   the number ends, not too large, and its last byte is one too many
 --   Row w why        given exactly when: 1, 2 and 3 for a start that isn't past the end, 4 for one that is; 5 to 8 never
+--   GapRow w why     why a group is no number of the width: 2 or 3
 use Prim.Native.Nat.{ℕ, _-_, _≤_, _<_}
 use mathlib.Core.List.{List, _++_}
 use mathlib.Core.Bool.{true, false}
@@ -45,3 +46,13 @@ Row w NoRoom s at = ⊥
 Row w NotAStart s at = ⊥
 Row w TooLong s at = ⊥
 Row w NoStart s at = ⊥
+
+abbrev pub GapRow : {A : Type 0} → Width A → Refusal → List ℕ → Type 0
+GapRow w Overflow g = OverflowRow w g
+GapRow w NotShortest g = NotShortestRow w g
+GapRow w End g = ⊥
+GapRow w Place g = ⊥
+GapRow w NoRoom g = ⊥
+GapRow w NotAStart g = ⊥
+GapRow w TooLong g = ⊥
+GapRow w NoStart g = ⊥

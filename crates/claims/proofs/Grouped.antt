@@ -1,0 +1,85 @@
+-- A group read alone: it is the shortest form of its number, or a gap.
+--
+--   from-front   reading a list is reading from its place 0
+--   group-bytes  a group is bytes
+--   empty        a list of no bytes
+--   read-group   each answer exactly when
+use Prim.Native.Nat.{ℕ, zero, suc, _+_}
+use mathlib.Core.Path.{_≡_, refl, ap, sym, _∙_}
+use mathlib.Core.List.{List, [], _∷_, _++_, append-nil}
+use native.Mathlib.Omega.{arith}
+use borrow.Author.Tests.{le-ltb}
+use lib.ListN.{length, length-append}
+use lib.Seq.{take-length}
+use Rattle.words.specs.Answer.{gives}
+use Rattle.words.specs.declared.Refusal.{Refusal}
+use Rattle.words.specs.declared.Refusal.the-variants.{End, Overflow, NotShortest, Place, NoRoom, NotAStart, TooLong, NoStart}
+use Rattle.groups.specs.Group.{Bytes, Group, one, more}
+use Rattle.groups.specs.Width.{Width, reading, read}
+use Rattle.groups.proofs.Exact.{group-length}
+use Rattle.claims.specs.Readers.{Reader, Value, width, form, OfWidth}
+use Rattle.claims.specs.Table.{Row, GapRow}
+use Rattle.claims.specs.Claims.{ReadGroup}
+use Rattle.claims.proofs.Laws.{laws, read-row}
+use Rattle.claims.proofs.Rows.{row-refused, high-run}
+
+pub from-front : {A : Type 0} (w : Width A) (s : List ℕ) → read w s 0 ≡ reading w s
+unfolding read
+from-front w s = rw (le-ltb (length s) 0 (omega arith))
+
+pub empty : (s : List ℕ) → length s ≡ 0 → s ≡ []
+empty [] e = refl
+empty (b ∷ s) e = absurd (omega arith)
+
+pub group-bytes : {g : List ℕ} → Group g → Bytes g
+group-bytes (one h) zero = omega arith
+group-bytes (one h) (suc i) = omega arith
+group-bytes (more h b k) zero = b
+group-bytes (more h b k) (suc i) = group-bytes k i
+
+module _ (k : Reader) (g : List ℕ) where
+  is-form : (v : Value k) → Group g → reading (width k) g ≡ gives (v, length g) → OfWidth k v × (g ≡ form k v)
+  is-form v group e =
+      let b = laws k .begins g 0 v (length g) (group-bytes group) (from-front (width k) g ∙ e) in
+      let l : length g ≡ length (form k v) + length (b .rest) = ap length (b .begins) ∙ length-append (form k v) (b .rest) in
+      let none : b .rest ≡ [] = empty (b .rest) (omega (arith, b .count)) in
+      (b .of-width, b .begins ∙ ap (λ (t : List ℕ). form k v ++ t) none ∙ append-nil (form k v))
+
+  form-is : (v : Value k) → OfWidth k v → g ≡ form k v → reading (width k) g ≡ gives (v, length g)
+  form-is v h e =
+      sym (from-front (width k) g) ∙ laws k .begun g 0 v (length g) (record {
+        here = omega arith;
+        of-width = h;
+        rest = [];
+        begins = e ∙ sym (append-nil (form k v));
+        count = ap length e;
+      })
+
+  gap-row : (why : Refusal) → Group g → Row (width k) why g 0 → GapRow (width k) why g
+  gap-row Overflow group row = row .1
+  gap-row NotShortest group row = row .1
+  gap-row End group row = omega (arith, group-length group, high-run g (length g) (omega arith) (rw (take-length g) (row .1 .high)))
+  gap-row Place group row = omega (arith, row)
+  gap-row NoRoom group row = row
+  gap-row NotAStart group row = row
+  gap-row TooLong group row = row
+  gap-row NoStart group row = row
+
+  row-gap : (why : Refusal) → GapRow (width k) why g → Row (width k) why g 0
+  row-gap Overflow row = (omega arith, row)
+  row-gap NotShortest row = (omega arith, row)
+  row-gap End row = absurd row
+  row-gap Place row = absurd row
+  row-gap NoRoom row = row
+  row-gap NotAStart row = row
+  row-gap TooLong row = row
+  row-gap NoStart row = row
+
+  pub read-group : Group g → ReadGroup k g
+  read-group group = record {
+    number = λ v. (is-form v group, λ h. form-is v (h .0) (h .1));
+    gap = λ why. (
+      λ e. gap-row why group (read-row k (laws k) g 0 (group-bytes group) why (from-front (width k) g ∙ e)),
+      λ row. sym (from-front (width k) g) ∙ row-refused (width k) (laws k .sound) why g 0 (row-gap why row),
+    );
+  }
