@@ -23,7 +23,7 @@ use Rattle.claims.proofs.Laws.{laws, accepts, refuses, excludes, exhaus
 use Rattle.claims.proofs.Trips.{writes, writes-list, write-read, read-write, more-behind, some-byte, one, one-written}
 use Rattle.claims.proofs.Spelled.{two-sentences, twos-complement, signed-form, one-too-many, signed-most}
 use Rattle.claims.proofs.Sources.{parse-same, serialize-same}
-use Rattle.claims.proofs.Same.{same-step, same-set, same-list, same-written}
+use Rattle.claims.proofs.Same.{same-step, same-set, same-list, same-written, same-next}
 use Rattle.claims.proofs.Damaged.{front, back, front-read, back-read}
 use Rattle.claims.proofs.Readings.{reader-from}
 use Rattle.claims.proofs.Anywhere.{reader-set-down, front-lost}
@@ -32,6 +32,8 @@ use Rattle.claims.proofs.Lists.{list-back}
 use Rattle.claims.proofs.Strict.{strict-rows}
 use Rattle.claims.proofs.Stepped.{step-rows}
 use Rattle.claims.proofs.Settled.{set-down-rows}
+use Rattle.texts.proofs.Decimals.{decimal-small, decimal-large}
+use Rattle.claims.proofs.Listings.{lists, enough, document}
 use Rattle.claims.proofs.Turned.{turn-rows}
 
 length-is : (k : Reader) (v : Value k) (n : Count) → Length k v n → n .0 ≡ length (form k v)
@@ -116,4 +118,10 @@ all = record {
   one-list = λ ns s at r r′ out out′ a b. (same-written r r′ (a .answer ∙ sym (b .answer)), a .leaves ∙ sym (b .leaves));
   turn-rows = turn-rows;
   one-turn = λ v r r′ a b. a .is ∙ sym (b .is);
+  digits = λ v. (decimal-small v, decimal-large v);
+  listing = lists;
+  listing-front = enough;
+  listing-document = document;
+  one-text = λ t s at r r′ out out′ a b. (a .place ∙ sym (b .place), a .bytes ∙ sym (b .bytes));
+  one-line = λ g s before r r′ after after′ a b. (same-next r r′ (a .answer ∙ sym (b .answer)), a .leaves ∙ sym (b .leaves));
 }

@@ -16,4 +16,5 @@ mod Readings
 mod Anywhere
 mod Damaged
 mod Turned
+mod Listings
 pub mod All

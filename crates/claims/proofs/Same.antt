@@ -24,6 +24,13 @@ use Rattle.blocks.specs.declared.Value.{Value}
 use Rattle.blocks.specs.declared.Value.the-variants as N
 use Rattle.blocks.specs.declared.SetDown.{SetDown}
 use Rattle.blocks.specs.declared.SetDown.the-variants as D
+use Rattle.listing.specs.Listing as I
+use Rattle.listing.specs.Listing.{Stage, top, at, ended, Coming, line, over}
+use Rattle.listing.specs.Promise.{stageOf, meaning as meaningNext}
+use Rattle.listing.specs.declared.Listing.{Listing}
+use Rattle.listing.specs.declared.Listing.the-variants as G
+use Rattle.listing.specs.declared.Next.{Next}
+use Rattle.listing.specs.declared.Next.the-variants as X
 use Rattle.lists.specs.Promise.{meaning as meaningList}
 use Rattle.lists.specs.declared.ReadList.{ReadList}
 use Rattle.lists.specs.declared.ReadList.the-variants as L
@@ -132,3 +139,26 @@ same-step = same-by meaningStep back is
     is (S.Tail n c) = refl
     is (S.Finished c) = refl
     is (S.Refused a) = rw (refusal-back a)
+
+pub same-next : (r r′ : Next) → meaningNext r ≡ meaningNext r′ → r ≡ r′
+same-next = same-by meaningNext back-next is
+  where
+    listing : Stage → Listing
+    listing top = G.Top
+    listing (at p) = G.At (record { place = record { 0 = p } })
+    listing ended = G.Ended
+
+    listing-is : (g : Listing) → listing (stageOf g) ≡ g
+    listing-is G.Top = refl
+    listing-is (G.At c) = refl
+    listing-is G.Ended = refl
+
+    back-next : Coming ℕ → Next
+    back-next (line n g) = X.Line (record { 0 = n }) (listing g)
+    back-next over = X.Ended
+    back-next (I.refuses k) = X.Refused (refusalOf k)
+
+    is : (r : Next) → back-next (meaningNext r) ≡ r
+    is (X.Line n g) = rw (listing-is g)
+    is X.Ended = refl
+    is (X.Refused a) = rw (refusal-back a)

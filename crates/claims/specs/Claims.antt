@@ -49,6 +49,11 @@ use Rattle.claims.specs.Blocks.{StepRow, SetDownRow, TurnRow}
 use Rattle.claims.specs.Readings.{ReaderFrom, ReaderSetDown, FrontLost}
 use Rattle.claims.specs.Damage.{Front, Back, FrontRead, BackRead}
 use Rattle.claims.specs.Strict.{Words, StrictRow}
+use Rattle.claims.specs.Listing.{Digits, Lists, FrontEnough, Document}
+use Rattle.texts.specs.Texts.{Lays}
+use Rattle.listing.specs.Promise.{GivesLine}
+use Rattle.listing.specs.declared.Listing.{Listing}
+use Rattle.listing.specs.declared.Next.{Next}
 use Rattle.claims.specs.Table.{Row, GapRow}
 use Rattle.claims.specs.Source.{spec-parse, spec-serialize-helper}
 use Rattle.claims.specs.Try.{Starred}
@@ -247,3 +252,11 @@ pub record Claims : Type 0 where
   -- turns
   pub turn-rows : (v : ℤ) (r : Turn) → Means v r ↔ TurnRow v r
   pub one-turn : (v : ℤ) (r r′ : Turn) → Means v r → Means v r′ → r ≡ r′
+  -- the listing
+  pub digits : Digits
+  pub listing : Lists
+  pub listing-front : FrontEnough
+  pub listing-document : Document
+  pub one-text : (t s : List ℕ) (at r r′ : ℕ) (out out′ : List ℕ) → Lays t s at r out → Lays t s at r′ out′ → (r ≡ r′) × (out ≡ out′)
+  pub one-line : (g : Listing) (s before : List ℕ) (r r′ : Next) (after after′ : List ℕ) → GivesLine g s before r after → GivesLine g s before r′ after′
+      → (r ≡ r′) × (after ≡ after′)

@@ -8,4 +8,5 @@ pub mod Blocks
 pub mod Readings
 pub mod Damage
 pub mod Strict
+pub mod Listing
 pub mod Claims

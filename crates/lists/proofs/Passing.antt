@@ -19,7 +19,8 @@ use Rattle.blocks.specs.declared.Rule.the-variants.{Unsigned}
 use Rattle.blocks.proofs.Runs.{start-behind}
 use Rattle.lists.specs.Lists.{joined, numbers}
 use Rattle.lists.specs.Inner.{ahead, StartsBefore, Behind}
-use Rattle.lists.proofs.Fronts.{numbers-group, numbers-tail, run-front}
+use Rattle.lists.proofs.Fronts.{numbers-group, numbers-tail}
+use Rattle.blocks.proofs.Cuts.{run-front}
 
 -- what a group's step says, taken apart by its case
 said-number : (a : Answer (ℕ × ℕ)) (n p : ℕ) {v m q : ℕ} → number (unsigned v) m q ≡ says unsigned a n p → (a ≡ gives (v, m)) × (q ≡ p + m)

@@ -1,0 +1,3 @@
+pub mod Lines
+pub mod Left
+pub mod Taking

@@ -1,0 +1,68 @@
+-- What comes next, from what was laid down in the buffer.
+--
+--   fronts         the line that comes next, put to the buffer's front, is given
+--   comes          so it is if it fits into line-room bytes and was laid down there
+--   none, refuses  nothing is given, or a refusal is, and the buffer is kept; no-room where the buffer is too small for a line
+--   row-fits       a row of numbers of 64 bits fits; fault-short: so short is the name of a fault
+--   other-fault    a fault that isn't not-shortest is an overflow
+use Prim.Native.Nat.{ℕ, _^_, _≤_, _<_}
+use mathlib.Core.Path.{_≡_, refl, ap}
+use mathlib.Core.List.{List, [], _∷_, _++_}
+use native.Mathlib.Omega.{arith}
+use borrow.Author.Tests.{lt-ltb, le-ltb}
+use lib.Dec.{eqb}
+use lib.ListN.{length, drop, length-append}
+use denote.Enum.Declared.{tagOf}
+use types.Run.{OneOf, miss}
+use Rattle.words.specs.Refusal.{numberOf}
+use Rattle.words.proofs.Cases.{by-test}
+use Rattle.words.specs.declared.Count.{Count}
+use Rattle.words.specs.declared.Refusal.{Refusal}
+use Rattle.words.proofs.Refusal.{the-type}
+use Rattle.words.specs.declared.Refusal.the-variants.{End, Overflow, NotShortest, Place, NoRoom, NotAStart, TooLong, NoStart}
+use Rattle.texts.specs.Texts.{ascii, Lays}
+use Rattle.texts.proofs.Decimals.{at-most-20}
+use Rattle.texts.proofs.Laying.{front, front-count}
+use Rattle.listing.specs.Listing.{line, over, refuses, line-room, row, fault, next}
+use Rattle.listing.specs.Promise.{stageOf, GivesLine}
+use Rattle.listing.specs.declared.Listing.{Listing}
+use Rattle.listing.specs.declared.Next.the-variants as X
+
+module _ {g : Listing} {s before : List ℕ} where
+  pub no-room : length before < line-room → GivesLine g s before (X.Refused NoRoom) before
+  no-room h = record { answer = rw (lt-ltb (length before) line-room h); leaves = rw (lt-ltb (length before) line-room h) }
+
+  module _ (room : line-room ≤ length before) where
+    pub fronts : {g′ : Listing} {t : List ℕ} → next s (stageOf g) ≡ line t (stageOf g′)
+        → GivesLine g s before (X.Line (record { 0 = length t }) g′) (t ++ drop (length t) before)
+    fronts e = record { answer = rw (le-ltb (length before) line-room room, e); leaves = rw (le-ltb (length before) line-room room, e) }
+
+    pub comes : {g′ : Listing} {n : Count} {t after : List ℕ}
+        → next s (stageOf g) ≡ line t (stageOf g′) → length t ≤ line-room → Lays t before 0 (n .0) after → GivesLine g s before (X.Line n g′) after
+    comes {g′} e fits p = record {
+      answer = rw (le-ltb (length before) line-room room, e) (ap (λ (m : ℕ). line m (stageOf g′)) (front-count (omega arith) p));
+      leaves = rw (le-ltb (length before) line-room room, e) (front (omega arith) p);
+    }
+
+    pub none : next s (stageOf g) ≡ over → GivesLine g s before X.Ended before
+    none e = record { answer = rw (le-ltb (length before) line-room room, e); leaves = rw (le-ltb (length before) line-room room, e) }
+
+    pub refused : {why : Refusal} → next s (stageOf g) ≡ refuses (numberOf why) → GivesLine g s before (X.Refused why) before
+    refused e = record { answer = rw (le-ltb (length before) line-room room, e); leaves = rw (le-ltb (length before) line-room room, e) }
+
+pub row-fits : (p v : ℕ) (what : List ℕ) → p < 2 ^ 64 → v < 2 ^ 64 → length what ≤ 12 → length (row p what v) ≤ line-room
+unfolding row
+row-fits p v what h k w = simp length-append (omega (arith, at-most-20 p h, at-most-20 v k))
+
+pub fault-short : (k : ℕ) → length (fault k) ≤ 12
+fault-short k = by-test (eqb k 3) (λ e. rw e (omega arith)) (λ e. rw e (omega arith))
+
+pub other-fault : (why : Refusal) → OneOf (0 ∷ 1 ∷ 3 ∷ 4 ∷ 5 ∷ 6 ∷ 7 ∷ []) (tagOf the-type why) → fault (numberOf why) ≡ ascii "overflow"
+other-fault NotShortest h = absurd (miss (0 ∷ 1 ∷ 3 ∷ 4 ∷ 5 ∷ 6 ∷ 7 ∷ []) 2 tt h)
+other-fault End h = refl
+other-fault Overflow h = refl
+other-fault Place h = refl
+other-fault NoRoom h = refl
+other-fault NotAStart h = refl
+other-fault TooLong h = refl
+other-fault NoStart h = refl

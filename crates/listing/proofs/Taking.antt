@@ -1,0 +1,60 @@
+-- What a listing's answer says of the text that is left.
+--
+--   Took s g n g′ after   the first n bytes of the buffer are a line: behind it stands the rest of the text, and there the rank is lower
+--   took                  what a line that was given is
+--   nothing-left          where none was given no text is left
+use Prim.Native.Nat.{ℕ, _≤_, _<_}
+use mathlib.Core.Path.{_≡_, ap, sym, _∙_}
+use mathlib.Core.List.{List, [], _++_}
+use native.Mathlib.Omega.{arith}
+use borrow.Author.Tests.{lt-ltb, le-ltb}
+use lib.ListN.{length, take, drop, length-append}
+use lib.Seq.{take-append-seam}
+use Rattle.words.specs.declared.Count.{Count}
+use Rattle.words.proofs.Cases.{by-order}
+use Rattle.listing.specs.Listing.{Stage, Coming, line, over, refuses, line-room, next}
+use Rattle.listing.specs.Promise.{stageOf, meaning, asked, counted, fronted, GivesLine}
+use Rattle.listing.specs.declared.Listing.{Listing}
+use Rattle.listing.specs.declared.Next.{Next}
+use Rattle.listing.specs.declared.Next.the-variants as X
+use Rattle.listing.proofs.Left.{Fine, left, rank, Left, none, more, coming}
+
+pub record Took (s : List ℕ) (g : Stage) (n : ℕ) (g′ : Stage) (after : List ℕ) : Type 0 where
+  pub within : n ≤ length after
+  pub fine : Fine s g′
+  pub falls : rank s g′ < rank s g
+  pub goes-on : left s g ≡ take n after ++ left s g′
+
+module _ {s : List ℕ} {g : Stage} where
+  line-took : {n : ℕ} {g′ : Stage} {after : List ℕ} (x : Coming (List ℕ)) (before : List ℕ)
+      → Left s g x → line n g′ ≡ counted x → after ≡ fronted x before → Took s g n g′ after
+  line-took _ before (none e) a f = let z : _≡_ {A = ℕ} 0 1 = cc in absurd (omega arith)
+  line-took {n} {g′} {after} _ before (more l g″ fine e falls) a f =
+      let i : n ≡ length l = cc in
+      let j : g′ ≡ g″ = cc in
+      let t : take n after ≡ l = rw (i, f) (take-append-seam l (drop (length l) before)) in
+      record {
+        within = rw (i, f) (omega (arith, length-append l (drop (length l) before)));
+        fine = rw j fine;
+        falls = rw j falls;
+        goes-on = rw (t, j) e;
+      }
+
+  over-left : (x : Coming (List ℕ)) → Left s g x → over ≡ counted x → left s g ≡ []
+  over-left _ (none e) a = e
+  over-left _ (more l g″ fine e falls) a = let z : _≡_ {A = ℕ} 0 1 = cc in absurd (omega arith)
+
+module _ {s : List ℕ} {g : Listing} (fine : Fine s (stageOf g)) {before after : List ℕ} where
+  pub took : {r : Next} {n : Count} {g′ : Listing} → GivesLine g s before r after → r ≡ X.Line n g′ → Took s (stageOf g) (n .0) (stageOf g′) after
+  took {r} {n} {g′} e is =
+      let answer : line (n .0) (stageOf g′) ≡ counted (asked s (stageOf g) (length before)) = ap meaning (sym is) ∙ e .answer in
+      by-order (length before) line-room
+      (λ h.
+      let f : line (n .0) (stageOf g′) ≡ refuses 5 = rw (lt-ltb (length before) line-room h) at answer in
+      let z : _≡_ {A = ℕ} 0 1 = cc in absurd (omega arith))
+      (λ h.
+      line-took (next s (stageOf g)) before (coming s (stageOf g) fine) (rw (le-ltb (length before) line-room h) at answer)
+      (rw (le-ltb (length before) line-room h) at (e .leaves)))
+
+  pub nothing-left : line-room ≤ length before → GivesLine g s before X.Ended after → left s (stageOf g) ≡ []
+  nothing-left h e = over-left (next s (stageOf g)) (coming s (stageOf g) fine) (rw (le-ltb (length before) line-room h) at (e .answer))

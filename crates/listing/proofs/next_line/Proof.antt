@@ -1,0 +1,83 @@
+-- `listing::next_line` meets its promise: a law of `Lines` for each answer.
+use native.Mathlib.Omega.{arith}
+use borrow.Author.Needs.{needs}
+use borrow.Author.Tests.{lt-ltb, le-ltb}
+use Rattle.blocks.specs.Block.{block-limit}
+use Rattle.listing.proofs.Lines.{comes, none, no-room}
+use Rattle.listing.proofs.next_line.Statement.{statement}
+use Rattle.listing.proofs.next_line.Tie as tie
+
+returns : tie.Need-returns
+returns c = no-room (c .if1 .taken)
+
+enum-told : tie.Need-enum-told
+enum-told c = search needs
+
+slice-aggregate-word : tie.Need-slice-aggregate-word
+slice-aggregate-word c = search needs
+
+word-requires : tie.Need-word-requires
+word-requires c κs = search needs
+
+same-length : tie.Need-same-length
+same-length c = search needs
+
+returns-2 : tie.Need-returns-2
+returns-2 c =
+    let long = c .before .before .before .before .before in
+    let top = long .before in
+    comes (top .before .before .if1 .left) (rw (top .enum-told .given .1, lt-ltb block-limit _ (long .if2 .taken))) (omega arith) (c .before .before .word .ensures)
+
+slice-aggregate-word-2 : tie.Need-slice-aggregate-word-2
+slice-aggregate-word-2 c = search needs
+
+word-requires-2 : tie.Need-word-requires-2
+word-requires-2 c κs = search needs
+
+enum-known-listing : tie.Need-enum-known-listing
+enum-known-listing c = search needs
+
+line-at-requires : tie.Need-line-at-requires
+line-at-requires c κs = search needs
+
+enum-told-2 : tie.Need-enum-told-2
+enum-told-2 c = search needs
+
+same-length-2 : tie.Need-same-length-2
+same-length-2 c = search needs
+
+returns-3 : tie.Need-returns-3
+returns-3 c =
+    let short = c .before .before .before .before .before in
+    let top = short .before in
+    comes (top .before .before .if1 .left) (rw (top .enum-told .given .1, le-ltb block-limit _ (short .if2 .left))) (omega arith) (c .before .before .word2 .ensures)
+
+same-length-3 : tie.Need-same-length-3
+same-length-3 c = search needs
+
+returns-4 : tie.Need-returns-4
+returns-4 c = rw (c .before .before .before .before .before .listing .given .1) (c .before .before .line-at .ensures)
+
+returns-5 : tie.Need-returns-5
+returns-5 c = none (c .before .before .if1 .left) (rw (c .enum-told2 .given .1))
+
+pub next-line-spec : {M : Type 1} → statement M
+next-line-spec =
+    tie.close
+    (tie.spec
+    returns
+    enum-told
+    slice-aggregate-word
+    word-requires
+    same-length
+    returns-2
+    slice-aggregate-word-2
+    word-requires-2
+    enum-known-listing
+    line-at-requires
+    enum-told-2
+    same-length-2
+    returns-3
+    same-length-3
+    returns-4
+    returns-5)

@@ -1,0 +1,80 @@
+-- `listing::write_lines` ends: the loop holds that a listing came to the stage, and there the rank falls with each line.
+use mathlib.Core.Path.{_≡_, refl, sym}
+use lib.ListN.{length}
+use lib.Seq.{length-take-le}
+use borrow.Author.Needs.{needs}
+use Rattle.listing.specs.Promise.{stageOf}
+use Rattle.listing.proofs.Left.{Fine, rank}
+use Rattle.listing.proofs.Taking.{Took, took}
+use Rattle.listing.proofs.write_lines.Statement.{statement}
+use Rattle.listing.proofs.write_lines.Tie as tie
+
+abbrev Inv-loop : tie.InvT-loop
+Inv-loop block line₀ listing₀ line listing = (length line ≡ length line₀) × Fine block (stageOf listing)
+
+abbrev μ-loop : tie.MeasureT-loop
+μ-loop block line₀ listing₀ line listing = rank block (stageOf listing)
+
+abbrev asked : tie.After-known-told Inv-loop μ-loop → tie.After-next-line Inv-loop μ-loop
+asked c = c .before .before .before .before .before
+
+-- what the line that was given is
+line-took : (c : tie.After-known-told Inv-loop μ-loop)
+    → Took (asked c .before .before .before .before .before .args .block .now) (stageOf (asked c .before .before .loop .listing))
+    (c .before .count .given .0 .0 .0) (stageOf (c .before .count .given .0 .1 .0)) (asked c .next-line .last .1 .1 .0)
+line-took c = took (asked c .before .before .loop .inv .1) (asked c .next-line .ensures) (c .before .count .given .1)
+
+loop-holds : tie.Need-loop-holds Inv-loop μ-loop
+loop-holds c = (refl, tt)
+
+next-line-requires : tie.Need-next-line-requires Inv-loop μ-loop
+next-line-requires c κs = search needs
+
+enum-known-count : tie.Need-enum-known-count Inv-loop μ-loop
+enum-known-count c = search needs
+
+slice-reshare-prefix-write-all : tie.Need-slice-reshare-prefix-write-all Inv-loop μ-loop
+slice-reshare-prefix-write-all c = line-took c .within
+
+slice-aggregate-write-all : tie.Need-slice-aggregate-write-all Inv-loop μ-loop
+slice-aggregate-write-all c = sym (length-take-le _ _ (line-took (c .before) .within))
+
+write-all-requires : tie.Need-write-all-requires Inv-loop μ-loop
+write-all-requires c κs = search needs
+
+same-length : tie.Need-same-length Inv-loop μ-loop
+same-length c = search needs
+
+returns : tie.Need-returns Inv-loop μ-loop
+returns c = search needs
+
+loop-less : tie.Need-loop-less Inv-loop μ-loop
+loop-less c = line-took (c .before .before .before) .falls
+
+loop-again : tie.Need-loop-again Inv-loop μ-loop
+loop-again c = (search needs, line-took (c .before .before .before) .fine)
+
+same-length-2 : tie.Need-same-length-2 Inv-loop μ-loop
+same-length-2 c = search needs
+
+returns-2 : tie.Need-returns-2 Inv-loop μ-loop
+returns-2 c = search needs
+
+pub write-lines-spec : {M : Type 1} → statement M
+write-lines-spec =
+    tie.close
+    (tie.spec
+    Inv-loop
+    μ-loop
+    loop-holds
+    next-line-requires
+    enum-known-count
+    slice-reshare-prefix-write-all
+    slice-aggregate-write-all
+    write-all-requires
+    same-length
+    returns
+    loop-less
+    loop-again
+    same-length-2
+    returns-2)

@@ -1,0 +1,72 @@
+-- Document 01, "Bytes to try": the listing of a block, as bytes.
+--
+--   row p what v      the line `p what v`
+--   groupRow p g      that of the group g at the place p: its number, or else its fault and its length
+--   rows p gs t       those of the groups gs and of the tail t, one after another, from the place p on
+--   text s            the whole listing of an input s: the header and the rows; above the limit the one line `refused 7`
+--   line-room         a buffer of so many bytes holds every line
+--   Stage             how far a listing has come: at its top, at a place of the block, or ended
+--   Coming, next s g  what comes next: a line and the stage behind it, nothing, or a refusal
+use Prim.Native.Nat.{ℕ, _+_}
+use mathlib.Core.List.{List, [], _∷_, _++_}
+use lib.Dec.{ltb, eqb}
+use lib.ListN.{length}
+use Rattle.words.specs.Answer.{pick, Answer, gives, refused}
+use Rattle.groups.specs.Width.{reading}
+use Rattle.texts.specs.Texts.{ascii, decimal}
+use Rattle.uleb128.specs.Unsigned.{u64}
+use Rattle.blocks.specs.Block.{block-limit, unsigned, signed, Stepped, number, gap, tail, finished, stepping}
+use Rattle.blocks.specs.Block as B
+use Rattle.blocks.specs.Cut.{cut}
+use Rattle.blocks.specs.declared.Rule.the-variants.{Unsigned}
+
+unfoldable pub row : ℕ → List ℕ → ℕ → List ℕ
+row p what v = decimal p ++ ascii " " ++ what ++ ascii " " ++ decimal v ++ ascii "\n"
+
+-- a group's fault is 2 or 3
+abbrev pub fault : ℕ → List ℕ
+fault k = pick (eqb k 3) (ascii "not-shortest") (ascii "overflow")
+
+abbrev pub rowOf : ℕ → Answer (ℕ × ℕ) → ℕ → List ℕ
+rowOf p (gives v) n = row p (ascii "number") (v .0)
+rowOf p (refused k) n = row p (fault k) n
+
+abbrev pub groupRow : ℕ → List ℕ → List ℕ
+groupRow p g = rowOf p (reading u64 g) (length g)
+
+unfoldable pub rows : ℕ → List (List ℕ) → List ℕ → List ℕ
+rows p [] [] = []
+rows p [] (b ∷ t) = row p (ascii "tail") (length (b ∷ t))
+rows p (g ∷ gs) t = groupRow p g ++ rows (p + length g) gs t
+
+unfoldable pub text : List ℕ → List ℕ
+text s =
+    pick (ltb block-limit (length s)) (ascii "refused 7\n")
+    (ascii "place what value\n" ++ rows 0 (cut s .groups) (cut s .tail))
+
+abbrev pub line-room : ℕ
+line-room = 64
+
+pub data Stage : Type 0 where
+  top : Stage
+  at : ℕ → Stage
+  ended : Stage
+
+pub data Coming (A : Type 0) : Type 0 where
+  line : A → Stage → Coming A
+  over : Coming A
+  refuses : ℕ → Coming A
+
+-- the line of what a step at the place p says
+abbrev pub lineOf : ℕ → Stepped → Coming (List ℕ)
+lineOf p (number (unsigned v) n q) = line (row p (ascii "number") v) (at q)
+lineOf p (number (signed v) n q) = over
+lineOf p (gap k n q) = line (row p (fault k) n) (at q)
+lineOf p (tail n q) = line (row p (ascii "tail") n) ended
+lineOf p (finished q) = over
+lineOf p (B.refuses k) = refuses k
+
+abbrev pub next : List ℕ → Stage → Coming (List ℕ)
+next s top = pick (ltb block-limit (length s)) (line (ascii "refused 7\n") ended) (line (ascii "place what value\n") (at 0))
+next s (at p) = lineOf p (stepping Unsigned s p)
+next s ended = over

@@ -1,0 +1,77 @@
+-- The digits that `io::decimal` makes are those of `decimal`, and a number of 64 bits has 20 at most.
+--
+--   decimal-small, decimal-large   the two equations of `decimal`
+--   fewest, lays-decimal           the fewest digits that hold a number, at least one, are its digits
+--   at-most-20                     how many a number of 64 bits has
+use Prim.Native.Nat.{ℕ, zero, suc, _+_, _-_, _/_, _%_, _^_, _≤_, _<_}
+use mathlib.Core.Path.{_≡_, refl, ap}
+use mathlib.Core.List.{List, [], _∷_, _++_}
+use native.Mathlib.Nat.{pow-succ'}
+use native.Mathlib.Omega.{arith}
+use Rattle.words.proofs.Cases.{by-order}
+use borrow.Author.Tests.{lt-ltb, le-ltb}
+use lib.ListN.{length, length-append}
+use Rattle.io.specs.Digits.{digits, glyph, Fewest}
+use Rattle.texts.specs.Texts.{decimal, decimal-within, Lays}
+
+-- l is the digits of v
+pub data Spelled : ℕ → List ℕ → Type 0 where
+  one : {v : ℕ} → v < 10 → Spelled v ((48 + v) ∷ [])
+  more : {v : ℕ} {l : List ℕ} → 10 ≤ v → Spelled (v / 10) l → Spelled v (l ++ (48 + v % 10) ∷ [])
+
+unique : {v : ℕ} {l m : List ℕ} → Spelled v l → Spelled v m → l ≡ m
+unique (one h) (one k) = refl
+unique (one h) (more k q) = absurd (omega arith)
+unique (more h p) (one k) = absurd (omega arith)
+unique {v} (more h p) (more k q) = ap (λ (l : List ℕ). l ++ (48 + v % 10) ∷ []) (unique p q)
+
+within : (n v : ℕ) → v ≤ n → Spelled v (decimal-within n v)
+unfolding decimal-within
+within zero v h = one {v = v} (omega arith)
+within (suc n) v h =
+    by-order v 10
+    (λ b. rw (lt-ltb v 10 b, decimal-within) (one b))
+    (λ b. rw (le-ltb v 10 b, decimal-within) (more b (within n (v / 10) (omega arith))))
+
+spelled : (v : ℕ) → Spelled v (decimal v)
+unfolding decimal
+spelled v = within v v (omega arith)
+
+pub decimal-small : (v : ℕ) → v < 10 → decimal v ≡ (48 + v) ∷ []
+decimal-small v h = unique (spelled v) (one h)
+
+pub decimal-large : (v : ℕ) → 10 ≤ v → decimal v ≡ decimal (v / 10) ++ (48 + v % 10) ∷ []
+decimal-large v h = unique (spelled v) (more h (spelled (v / 10)))
+
+digit : (d : ℕ) → d < 10 → glyph d ≡ 48 + d
+digit d h = rw (lt-ltb d 10 h)
+
+ten : (k : ℕ) → 10 ≤ 10 ^ suc k
+ten zero = omega arith
+ten (suc k) = omega (arith, ten k, pow-succ' 10 (suc k))
+
+digits-spelled : (k v : ℕ) → Fewest 10 1 v k → Spelled v (digits 10 k v)
+digits-spelled zero v f = absurd (omega (arith, f .0))
+digits-spelled (suc zero) v f = let h : v < 10 = omega (arith, f .1) in let e : v % 10 ≡ v = omega arith in rw (e, digit v h) (one h)
+digits-spelled (suc (suc k)) v f =
+    let i : suc (suc k) - 1 ≡ suc k = omega arith in
+    let j : suc k - 1 ≡ k = omega arith in
+    let least : 10 ^ suc k ≤ v = rw i at (f .2 (omega arith)) in
+    let tenth : 10 ^ k ≤ v / 10 = omega (arith, least, pow-succ' 10 k) in
+    let most : v / 10 < 10 ^ suc k = omega (arith, f .1, pow-succ' 10 (suc k)) in
+    rw (digit (v % 10) (omega arith)) (more {v = v} (omega (arith, ten k, least)) (digits-spelled (suc k) (v / 10) (omega arith, most, λ h. rw j tenth)))
+
+fewest : (k v : ℕ) → Fewest 10 1 v k → digits 10 k v ≡ decimal v
+fewest k v f = unique (digits-spelled k v f) (spelled v)
+
+-- those digits, laid down
+pub lays-decimal : (k v : ℕ) {t s s′ : List ℕ} {at r : ℕ} → Fewest 10 1 v k → t ≡ digits 10 k v → Lays t s at r s′ → Lays (decimal v) s at r s′
+lays-decimal k v f e p = rw (← (fewest k v f), ← e) p
+
+at-most : (k : ℕ) {v : ℕ} {l : List ℕ} → Spelled v l → v < 10 ^ suc k → length l ≤ suc k
+at-most k (one h) b = omega arith
+at-most zero (more h p) b = absurd (omega arith)
+at-most (suc k) (more {v} {l} h p) b = rw (length-append l ((48 + v % 10) ∷ [])) (omega (arith, at-most k p (omega (arith, pow-succ' 10 (suc k)))))
+
+pub at-most-20 : (v : ℕ) → v < 2 ^ 64 → length (decimal v) ≤ 20
+at-most-20 v h = at-most 19 (spelled v) (omega arith)
