@@ -1,5 +1,2 @@
-pub mod Decimals
-pub mod Laying
 pub mod LowFirst
-pub mod Moving
 pub mod Sizes

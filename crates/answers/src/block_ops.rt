@@ -1,6 +1,7 @@
 // The ops on blocks: a step of the cursor, and set-down.
 use crate::lines;
-use crate::phrases;
+use crate::lines::Line;
+use crate::signs;
 use blocks::Cursor;
 use blocks::Rule;
 use blocks::SetDown;
@@ -10,63 +11,44 @@ use words::Count;
 use words::Place;
 use words::Refusal;
 
-// The ` P` of a line: the place of the cursor handed back.
-fn with_place(cursor: Cursor, out: &mut [u8], at: usize) -> usize {
+fn place(cursor: Cursor) -> u64 {
     let place = cursor.place;
-    phrases::spaced(place.0 as u64, out, at)
+    place.0 as u64
 }
 
-fn number(value: Value, count: Count, out: &mut [u8], at: usize) -> usize {
+fn number(value: Value, count: Count, cursor: Cursor) -> Line {
+    let n = count.0 as u64;
     match value {
-        Value::Unsigned(v) => phrases::unsigned_number(v, count, out, at),
-        Value::Signed(v) => phrases::signed_number(v, count, out, at),
+        Value::Unsigned(v) => lines::says(lines::NUMBER, 3, v, n, place(cursor)),
+        Value::Signed(v) => lines::says(signs::name(v), 3, signs::size(v), n, place(cursor)),
     }
 }
 
-// `number V N P`
-fn stepped(value: Value, count: Count, cursor: Cursor, out: &mut [u8], at: usize) -> usize {
-    let said = number(value, count, out, at);
-    with_place(cursor, out, said)
-}
-
-// `gap R N P`
-fn gap(reason: Refusal, count: Count, cursor: Cursor, out: &mut [u8], at: usize) -> usize {
+fn gap(reason: Refusal, count: Count, cursor: Cursor) -> Line {
     let number = words::number(reason);
-    let named = lines::word(b"gap ", out, at);
-    let said = lines::unsigned(number as u64, out, named);
-    let next = phrases::with_count(count, out, said);
-    with_place(cursor, out, next)
+    lines::says(lines::GAP, 3, number as u64, count.0 as u64, place(cursor))
 }
 
-// `tail N P`
-fn tail(count: Count, cursor: Cursor, out: &mut [u8], at: usize) -> usize {
-    let named = lines::word(b"tail", out, at);
-    let next = phrases::with_count(count, out, named);
-    with_place(cursor, out, next)
-}
-
-// `finished P` or `start P`
-fn placed(name: &[u8], cursor: Cursor, out: &mut [u8], at: usize) -> usize {
-    let named = lines::word(name, out, at);
-    with_place(cursor, out, named)
+fn stepped(answer: Step) -> Line {
+    match answer {
+        Step::Number(value, count, next) => number(value, count, next),
+        Step::Gap(reason, count, next) => gap(reason, count, next),
+        Step::Tail(count, next) => lines::says(lines::TAIL, 2, count.0 as u64, place(next), 0),
+        Step::Finished(next) => lines::says(lines::FINISHED, 1, place(next), 0, 0),
+        Step::Refused(refusal) => lines::refused(refusal),
+    }
 }
 
 // The line for a step at a place of the block.
-pub(crate) fn step(rule: Rule, place: Place, block: &[u8], out: &mut [u8], at: usize) -> usize {
+pub(crate) fn step(rule: Rule, place: Place, block: &[u8]) -> Line {
     let cursor = Cursor { place };
-    match cursor.step(block, rule) {
-        Step::Number(value, count, next) => stepped(value, count, next, out, at),
-        Step::Gap(reason, count, next) => gap(reason, count, next, out, at),
-        Step::Tail(count, next) => tail(count, next, out, at),
-        Step::Finished(next) => placed(b"finished", next, out, at),
-        Step::Refused(refusal) => phrases::refused(refusal, out, at),
-    }
+    stepped(cursor.step(block, rule))
 }
 
-// The line for set-down at a place of the block.
-pub(crate) fn set_down(place: Place, block: &[u8], out: &mut [u8], at: usize) -> usize {
-    match blocks::set_down(block, place) {
-        SetDown::At(cursor) => placed(b"start", cursor, out, at),
-        SetDown::Refused(refusal) => phrases::refused(refusal, out, at),
+// The line for what set-down answered.
+pub(crate) fn set_down(answer: SetDown) -> Line {
+    match answer {
+        SetDown::At(cursor) => lines::says(lines::START, 1, place(cursor), 0, 0),
+        SetDown::Refused(refusal) => lines::refused(refusal),
     }
 }

@@ -1,13 +1,15 @@
 // The ops on lists: strict reading of a block, and list writing.
 use crate::frames;
-use crate::phrases;
+use crate::lines;
+use crate::lines::Line;
 use lists::ReadList;
 use words::Place;
+use words::Written;
 ghost use Prim.Native.Nat.{_*_, _≤_};
 ghost use lib.ListN.{length};
 
 // The most numbers of an answer slice, and what each is before it is filled.
-const SLICE: usize = 8192;
+pub(crate) const SLICE: usize = 8192;
 
 const UNFILLED: u64 = 7777777777777777777;
 
@@ -15,44 +17,45 @@ const UNFILLED: u64 = 7777777777777777777;
 const LIST: usize = 25000;
 
 // Numbers, a space before each.
-fn each(numbers: &[u64], out: &mut [u8], at: usize) -> usize {
+fn each(numbers: &[u64], out: &mut [u8], at: Place) -> Place {
     let mut next = at;
     let mut i = 0;
     while i < numbers.len() {
         let v = numbers[i];
-        next = phrases::spaced(v, out, next);
+        next = lines::spaced(v, out, next);
         i += 1;
     }
     next
 }
 
-fn filled(answer: ReadList, out: &mut [u8], at: usize) -> usize {
+fn filled(answer: ReadList) -> Line {
     match answer {
-        ReadList::Filled(numbers) => phrases::counted(numbers.0, out, at),
-        ReadList::Refused(refusal) => phrases::refused(refusal, out, at),
+        ReadList::Filled(numbers) => lines::says(lines::COUNT, 1, numbers.0 as u64, 0, 0),
+        ReadList::Refused(refusal) => lines::refused(refusal),
     }
 }
 
-// Reads the block into the answer slice. The line has the whole slice behind the answer.
-fn read_into(slice: &mut [u64], block: &[u8], out: &mut [u8], at: usize) -> usize {
-    let answer = lists::read_strict(block, slice);
-    let said = filled(answer, out, at);
-    each(slice, out, said)
+fn slots(asked: usize) -> usize
+    ensures { λ r. ⌜ r ≤ 8192 ⌝ }
+{
+    if SLICE < asked {
+        return 0;
+    }
+    asked
 }
 
-// The line for strict reading into an answer slice of so many numbers.
-pub(crate) fn read_strict(count: usize, block: &[u8], out: &mut [u8], at: usize) -> usize {
-    if SLICE < count {
-        return phrases::unknown(out, at);
-    }
+// The line for strict reading into an answer slice of so many numbers, at most SLICE: the whole slice stands behind the answer.
+pub(crate) fn read_strict(asked: usize, block: &[u8], out: &mut [u8]) -> Place {
     let mut slice = [UNFILLED; SLICE];
-    read_into(&mut slice[0..count], block, out, at)
+    let count = slots(asked);
+    let part = &mut slice[0..count];
+    let answer = lists::read_strict(block, part);
+    let said = lines::lay(filled(answer), out);
+    each(part, out, said)
 }
 
 // Takes the numbers that stand in front of the bytes, eight bytes for each.
-fn take_numbers(bytes: &[u8], numbers: &mut [u64])
-    requires { ⌜ length (now numbers) * 8 ≤ length (now bytes) ⌝ }
-{
+fn take_numbers(bytes: &[u8], numbers: &mut [u64]) {
     let mut i = 0;
     while i < numbers.len() {
         let from = i * 8;
@@ -61,38 +64,33 @@ fn take_numbers(bytes: &[u8], numbers: &mut [u64])
     }
 }
 
-// Writes the numbers that stand in front into the bytes behind them. The line has those bytes behind the answer.
-fn write_behind(
-    numbers: &mut [u64],
-    bytes: &mut [u8],
-    place: Place,
-    out: &mut [u8],
-    at: usize,
-) -> usize
-    requires { ⌜ length (now numbers) * 8 ≤ length (now bytes) ⌝ }
+// How many numbers n bytes hold, if they hold so many.
+fn held(asked: usize, n: usize) -> usize
+    ensures { λ r. ⌜ (r ≤ 25000) × (r * 8 ≤ n) ⌝ }
 {
-    take_numbers(bytes, numbers);
-    let behind = numbers.len() * 8;
-    let rest = &mut bytes[behind..];
-    let answer = lists::write_list(numbers, rest, place);
-    phrases::written_to(answer, rest, out, at)
+    if LIST < asked {
+        return 0;
+    }
+    if n / 8 < asked {
+        return 0;
+    }
+    asked
 }
 
-// The line for writing a list of so many numbers at a place.
-pub(crate) fn write_list(
-    count: usize,
-    bytes: &mut [u8],
-    place: Place,
-    out: &mut [u8],
-    at: usize,
-) -> usize {
-    let held = bytes.len() / 8;
-    if held < count {
-        return phrases::unknown(out, at);
-    }
-    if LIST < count {
-        return phrases::unknown(out, at);
-    }
+// Writes a list of so many numbers, which stand in front of the bytes, into the bytes behind them.
+pub(crate) fn write_list(asked: usize, bytes: &mut [u8], place: Place) -> Written {
     let mut numbers = [0u64; LIST];
-    write_behind(&mut numbers[0..count], bytes, place, out, at)
+    let count = held(asked, bytes.len());
+    let part = &mut numbers[0..count];
+    take_numbers(bytes, part);
+    let behind = count * 8;
+    lists::write_list(part, &mut bytes[behind..], place)
+}
+
+// Where the bytes stand that a list of so many numbers is written into.
+pub(crate) fn behind(count: usize) -> usize {
+    if LIST < count {
+        return 0;
+    }
+    count * 8
 }

@@ -1,8 +1,17 @@
-// Signed numbers: the size of one, and the one that a frame gives in two's complement.
+// Signed numbers: the name and the size of one, and the one that a frame gives in two's complement.
+use crate::lines;
 ghost use mathlib.Core.Path.{_≡_};
 ghost use lib.IntN.{natAbs};
 ghost use mir.Val.{toZ};
 ghost use mir.Syntax.{w64};
+
+// The name of its line.
+pub(crate) fn name(v: i64) -> usize {
+    if v < 0 {
+        return lines::BELOW_ZERO;
+    }
+    lines::NUMBER
+}
 
 // The number without its sign: 2^63 at most.
 pub(crate) fn size(v: i64) -> u64

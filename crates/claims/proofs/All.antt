@@ -11,8 +11,8 @@ use Rattle.groups.specs.Group.{run, digits}
 use Rattle.groups.specs.Form.{groups, spell, spellings}
 use Rattle.groups.specs.Width.{runsOut, tooLarge, tooMany, reading, read}
 use Rattle.groups.proofs.Spelling.{some-bytes}
-use Rattle.uleb128.specs.Unsigned as unsigned
-use Rattle.uleb128.proofs.Forms.{form-short, form-some}
+use Rattle.uleb128_writing.specs.Unsigned as unsigned
+use Rattle.uleb128_writing.proofs.Forms.{form-short, form-some}
 use Rattle.sleb128.specs.Signed as signed
 use Rattle.sleb128.proofs.Forms.{form-spelled}
 use Rattle.claims.specs.Readers.{Reader, loop64, recursive64, unsigned32, signed64, Value, form}

@@ -16,9 +16,9 @@ use Rattle.groups.specs.Group.{Bytes}
 use Rattle.groups.specs.Width.{read}
 use Rattle.groups.proofs.Walks.{Sound}
 use Rattle.groups.proofs.Standing.{Stands, standing}
-use Rattle.uleb128.specs.Promise.{meaning64, meaning32}
-use Rattle.uleb128.proofs.Widths as unsigned-widths
-use Rattle.uleb128.proofs.Exactly as unsigned-exactly
+use Rattle.uleb128_reading.specs.Promise.{meaning64, meaning32}
+use Rattle.uleb128_reading.proofs.Widths as unsigned-widths
+use Rattle.uleb128_reading.proofs.Exactly as unsigned-exactly
 use Rattle.sleb128.specs.Promise.{meaning as meaningI64}
 use Rattle.sleb128.proofs.Widths as signed-widths
 use Rattle.sleb128.proofs.Exactly as signed-exactly

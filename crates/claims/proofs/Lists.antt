@@ -14,7 +14,7 @@ use Rattle.blocks.specs.Block.{block-limit}
 use Rattle.groups.specs.Group.{run}
 use Rattle.groups.specs.Width.{reading}
 use Rattle.groups.proofs.Standing.{reading-count}
-use Rattle.uleb128.specs.Unsigned.{form, u64}
+use Rattle.uleb128_writing.specs.Unsigned.{form, u64}
 use Rattle.lists.specs.Lists.{list-limit, joined, numbers, strict, filled, forms}
 use Rattle.lists.proofs.Fronts.{numbers-group, numbers-none}
 use Rattle.lists.specs.Promise.{WritesList}

@@ -11,11 +11,11 @@ use Rattle.words.specs.declared.Refusal.{Refusal}
 use Rattle.words.specs.declared.Refusal.the-variants.{End, Overflow, NotShortest, Place, NoRoom, NotAStart, TooLong, NoStart}
 use Rattle.words.specs.declared.Written.{Written}
 use Rattle.words.specs.declared.Written.the-variants as W
-use Rattle.uleb128.specs.Promise.{meaning64, meaning32}
-use Rattle.uleb128.specs.declared.reading.ReadU64.{ReadU64}
-use Rattle.uleb128.specs.declared.reading.ReadU64.the-variants as R64
-use Rattle.uleb128.specs.declared.reading.ReadU32.{ReadU32}
-use Rattle.uleb128.specs.declared.reading.ReadU32.the-variants as R32
+use Rattle.uleb128_reading.specs.Promise.{meaning64, meaning32}
+use Rattle.uleb128_reading.specs.declared.ReadU64.{ReadU64}
+use Rattle.uleb128_reading.specs.declared.ReadU64.the-variants as R64
+use Rattle.uleb128_reading.specs.declared.ReadU32.{ReadU32}
+use Rattle.uleb128_reading.specs.declared.ReadU32.the-variants as R32
 use Rattle.blocks.specs.Block.{Val, unsigned, signed, Stepped, number, gap, tail, finished, refuses}
 use Rattle.blocks.specs.Promise.{valueOf, meaning as meaningStep, meaningSet}
 use Rattle.blocks.specs.declared.Step.{Step}

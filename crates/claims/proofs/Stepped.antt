@@ -22,7 +22,7 @@ use Rattle.groups.specs.Width.{Width, reading, runsOut, tooLarge, tooMany}
 use Rattle.groups.proofs.Run.{run-within}
 use Rattle.groups.proofs.Exact.{group-length}
 use Rattle.groups.proofs.Standing.{front-group, run-behind, reading-count}
-use Rattle.uleb128.specs.Unsigned.{u64}
+use Rattle.uleb128_writing.specs.Unsigned.{u64}
 use Rattle.sleb128.specs.Signed.{i64}
 use Rattle.blocks.specs.Block.{block-limit, isStart, Val, unsigned, signed, number, gap, says, saysBy, stepping}
 use Rattle.blocks.specs.Promise.{valueOf, Steps}

@@ -21,7 +21,7 @@ use Rattle.words.specs.declared.Refusal.{Refusal}
 use Rattle.words.specs.declared.Refusal.the-variants.{End, Overflow, NotShortest, Place, NoRoom, NotAStart, TooLong, NoStart}
 use Rattle.groups.specs.Group.{High, Group}
 use Rattle.groups.specs.Width.{reading}
-use Rattle.uleb128.specs.Unsigned.{u64}
+use Rattle.uleb128_writing.specs.Unsigned.{u64}
 use Rattle.sleb128.specs.Signed.{i64}
 use Rattle.blocks.specs.Block.{block-limit, Val, unsigned, signed}
 use Rattle.blocks.specs.Promise.{valueOf}

@@ -28,9 +28,11 @@ use Rattle.groups.specs.Group.{Bytes, Group, digits}
 use Rattle.groups.specs.Promise.{Walks, Stores}
 use Rattle.groups.specs.Width.{reading, read, tooMany}
 use Rattle.groups.specs.declared.reading.Walked.{Walked}
-use Rattle.uleb128.specs.Unsigned as unsigned
-use Rattle.uleb128.specs.Promise.{ReadsU64, ReadsU64Rec, WritesU64, WritesU64Rec}
-use Rattle.uleb128.specs.declared.reading.ReadU64.{ReadU64}
+use Rattle.uleb128_writing.specs.Unsigned as unsigned
+use Rattle.uleb128_reading.specs.Promise.{ReadsU64}
+use Rattle.uleb128_writing.specs.Promise.{WritesU64}
+use Rattle.uleb128_recursive.specs.Promise.{ReadsU64Rec, WritesU64Rec}
+use Rattle.uleb128_reading.specs.declared.ReadU64.{ReadU64}
 use Rattle.sleb128.specs.Signed as signed
 use Rattle.claims.specs.Readers.{Reader, loop64, recursive64, unsigned32, signed64, Value, Reply, number, refuse, Promised, width, form, OfWidth}
 use Rattle.claims.specs.Writers.{Laying, Length}

@@ -14,7 +14,7 @@ use lib.ListN.{length, drop}
 use Rattle.words.specs.declared.Refusal.{Refusal}
 use Rattle.words.specs.declared.Refusal.the-variants.{End, Overflow, NotShortest, Place, NoRoom, NotAStart, TooLong, NoStart}
 use Rattle.groups.specs.Group.{High, Group}
-use Rattle.uleb128.specs.Unsigned.{u64}
+use Rattle.uleb128_writing.specs.Unsigned.{u64}
 use Rattle.blocks.specs.Block.{block-limit}
 use Rattle.lists.specs.Lists.{forms}
 use Rattle.lists.specs.declared.ReadList.{ReadList}

@@ -21,7 +21,7 @@ use Rattle.groups.specs.Width.{reading}
 use Rattle.groups.proofs.Run.{run-within, at-run}
 use Rattle.groups.proofs.Standing.{reading-count}
 use Rattle.texts.specs.Texts.{ascii}
-use Rattle.uleb128.specs.Unsigned.{u64}
+use Rattle.uleb128_writing.specs.Unsigned.{u64}
 use Rattle.blocks.specs.Block.{block-limit, isStart, unsigned, says}
 use Rattle.blocks.specs.Cut.{cut}
 use Rattle.blocks.specs.declared.Cursor.{Cursor}

@@ -16,7 +16,7 @@ use Rattle.words.specs.declared.Written.{Written}
 use Rattle.words.specs.declared.Written.the-variants.{Bytes, Refused}
 use Rattle.groups.specs.Laying.{writing, laid, Lays}
 use Rattle.groups.proofs.Storing.{lays}
-use Rattle.uleb128.specs.Unsigned.{form}
+use Rattle.uleb128_writing.specs.Unsigned.{form}
 use Rattle.lists.specs.Lists.{list-limit, forms}
 use Rattle.lists.specs.Promise.{WritesList}
 use Rattle.lists.proofs.Totals.{forms-next, forms-end, length-next}

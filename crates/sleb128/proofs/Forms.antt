@@ -12,8 +12,8 @@ use Rattle.words.specs.declared.Written.{Written}
 use Rattle.groups.specs.Form.{groups}
 use Rattle.groups.specs.Laying.{Lays}
 use Rattle.groups.proofs.Spelling.{Spelled, spelled, spelled-laid, some-bytes, short, small-enough}
-use Rattle.uleb128.specs.Unsigned.{form as unsigned-form}
-use Rattle.uleb128.proofs.Forms.{form-spelled as unsigned-spelled}
+use Rattle.uleb128_writing.specs.Unsigned.{form as unsigned-form}
+use Rattle.uleb128_writing.proofs.Forms.{form-spelled as unsigned-spelled}
 use Rattle.sleb128.specs.Signed.{below, form}
 
 pub form-spelled : (v : ℤ) → Spelled (below v) 64 (mag v) (form v)

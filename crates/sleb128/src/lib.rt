@@ -5,7 +5,7 @@
 use groups::Walked;
 use groups::store;
 use groups::walk;
-use uleb128::length_u64;
+use uleb128_writing::length_u64;
 use words::Count;
 use words::Place;
 use words::Refusal;

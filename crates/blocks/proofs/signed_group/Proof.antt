@@ -1,7 +1,7 @@
 -- `blocks::signed_group` keeps what it promises inside the crate: a law of `Says` for each answer of the reader.
-use mathlib.Core.Path.{ap, sym, _∙_}
+use mathlib.Core.Path.{refl}
 use native.Mathlib.Omega.{arith}
-use Rattle.sleb128.specs.Promise.{meaning as meaning-of}
+use Rattle.sleb128.specs.Promise.{meaning}
 use Rattle.sleb128.specs.Signed.{i64}
 use Rattle.sleb128.proofs.Bits.{back}
 use Rattle.blocks.specs.Block.{signed}
@@ -19,7 +19,7 @@ enum-known-v c = search needs
 past-requires : tie.Need-past-requires
 past-requires c κs =
     let start = c .before .before .before .before .before in
-    omega (arith, start .pre .ends, says-count i64 signed _ _ (start .pre) (ap meaning-of (sym (c .before .v .given .1)) ∙ c .before .before .before .read-i64 .ensures .is))
+    omega (arith, start .pre .ends, says-count meaning i64 signed (start .pre) (c .before .before .before .read-i64 .ensures .is) (c .before .v .given .1) refl)
 
 enum-known-refusal : tie.Need-enum-known-refusal
 enum-known-refusal c = search needs
@@ -29,18 +29,19 @@ past-requires-2 c κs = search needs
 
 returns : tie.Need-returns
 returns c =
-    let start = c .before .before .before .before .before .before in
+    let asked = c .before .before .before .before .before in
     record {
-      is = rw (back _ (c .before .known-told .given .0 .1), c .past .ensures) (says-number i64 signed _ _ (start .pre) (λ i. c .before .before .before .before .before .shared-slice-known .given i .fits)
-          (ap meaning-of (sym (c .before .before .v .given .1)) ∙ c .before .before .before .before .read-i64 .ensures .is));
+      is = rw (back _ (c .before .known-told .given .0 .1))
+          (says-number meaning i64 signed (asked .before .pre) (c .before .before .before .before .read-i64 .ensures .is) (c .before .before .v .given .1)
+          (λ i. asked .shared-slice-known .given i .fits) refl (c .past .ensures));
     }
 
 returns-2 : tie.Need-returns-2
 returns-2 c =
-    let start = c .before .before .before .before .before .before in
+    let asked = c .before .before .before .before .before in
     record {
-      is = rw (c .past2 .ensures) (says-gap i64 signed _ _ (start .pre) (λ i. c .before .before .before .before .before .shared-slice-known .given i .fits)
-          (ap meaning-of (sym (c .before .before .refusal .given .1)) ∙ c .before .before .before .before .read-i64 .ensures .is));
+      is = says-gap meaning i64 signed (asked .before .pre) (c .before .before .before .before .read-i64 .ensures .is) (c .before .before .refusal .given .1)
+          (λ i. asked .shared-slice-known .given i .fits) refl (c .past2 .ensures);
     }
 
 pub signed-group-spec : {M : Type 1} → statement M

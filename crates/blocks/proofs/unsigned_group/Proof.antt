@@ -1,8 +1,8 @@
 -- `blocks::unsigned_group` keeps what it promises inside the crate: a law of `Says` for each answer of the reader.
-use mathlib.Core.Path.{ap, sym, _∙_}
+use mathlib.Core.Path.{refl}
 use native.Mathlib.Omega.{arith}
-use Rattle.uleb128.specs.Promise.{meaning64 as meaning-of}
-use Rattle.uleb128.specs.Unsigned.{u64}
+use Rattle.uleb128_reading.specs.Promise.{meaning64 as meaning}
+use Rattle.uleb128_writing.specs.Unsigned.{u64}
 use Rattle.blocks.specs.Block.{unsigned}
 use Rattle.blocks.proofs.Says.{says-count, says-number, says-gap}
 use borrow.Author.Needs.{needs}
@@ -18,7 +18,7 @@ enum-known-v c = search needs
 past-requires : tie.Need-past-requires
 past-requires c κs =
     let start = c .before .before .before .before .before in
-    omega (arith, start .pre .ends, says-count u64 unsigned _ _ (start .pre) (ap meaning-of (sym (c .before .v .given .1)) ∙ c .before .before .before .read-u64 .ensures .is))
+    omega (arith, start .pre .ends, says-count meaning u64 unsigned (start .pre) (c .before .before .before .read-u64 .ensures .is) (c .before .v .given .1) refl)
 
 enum-known-refusal : tie.Need-enum-known-refusal
 enum-known-refusal c = search needs
@@ -28,18 +28,18 @@ past-requires-2 c κs = search needs
 
 returns : tie.Need-returns
 returns c =
-    let start = c .before .before .before .before .before .before in
+    let asked = c .before .before .before .before .before in
     record {
-      is = rw (c .past .ensures) (says-number u64 unsigned _ _ (start .pre) (λ i. c .before .before .before .before .before .shared-slice-known .given i .fits)
-          (ap meaning-of (sym (c .before .before .v .given .1)) ∙ c .before .before .before .before .read-u64 .ensures .is));
+      is = says-number meaning u64 unsigned (asked .before .pre) (c .before .before .before .before .read-u64 .ensures .is) (c .before .before .v .given .1)
+          (λ i. asked .shared-slice-known .given i .fits) refl (c .past .ensures);
     }
 
 returns-2 : tie.Need-returns-2
 returns-2 c =
-    let start = c .before .before .before .before .before .before in
+    let asked = c .before .before .before .before .before in
     record {
-      is = rw (c .past2 .ensures) (says-gap u64 unsigned _ _ (start .pre) (λ i. c .before .before .before .before .before .shared-slice-known .given i .fits)
-          (ap meaning-of (sym (c .before .before .refusal .given .1)) ∙ c .before .before .before .before .read-u64 .ensures .is));
+      is = says-gap meaning u64 unsigned (asked .before .pre) (c .before .before .before .before .read-u64 .ensures .is) (c .before .before .refusal .given .1)
+          (λ i. asked .shared-slice-known .given i .fits) refl (c .past2 .ensures);
     }
 
 pub unsigned-group-spec : {M : Type 1} → statement M

@@ -4,7 +4,7 @@ use mathlib.Core.Path.{refl}
 use native.Mathlib.Omega.{arith}
 use borrow.Author.Needs.{needs}
 use lib.ListN.{length, getD}
-use Rattle.uleb128.specs.Unsigned.{form}
+use Rattle.uleb128_writing.specs.Unsigned.{form}
 use Rattle.lists.proofs.Layings.{LaidSoFar, laid-there, laid-count, no-refusal, none-laid, room-next, one-laid, all-laid}
 use Rattle.lists.proofs.lay.Statement.{statement}
 use Rattle.lists.proofs.lay.Tie as tie

@@ -4,7 +4,7 @@ use mathlib.Core.Path.{ap, sym, _∙_}
 use native.Mathlib.Omega.{arith}
 use lib.ListN.{length}
 use lib.Signed.{mag}
-use Rattle.uleb128.specs.Unsigned.{form as unsigned-form}
+use Rattle.uleb128_writing.specs.Unsigned.{form as unsigned-form}
 use Rattle.sleb128.proofs.Bits.{back}
 use Rattle.sleb128.proofs.Forms.{form-length}
 use borrow.Author.Needs.{needs}

@@ -8,10 +8,10 @@ use Rattle.answers.proofs.list_ops.each.Statement.{statement}
 use Rattle.answers.proofs.list_ops.each.Tie as tie
 
 abbrev Inv-loop : tie.InvT-loop
-Inv-loop numbers out₀ at next₀ i₀ out next i = (length out ≡ length out₀) × (i ≤ length numbers)
+Inv-loop numbers out₀ next₀ i₀ out next i = (length out ≡ length out₀) × (i ≤ length numbers)
 
 abbrev μ-loop : tie.MeasureT-loop
-μ-loop numbers out₀ at next₀ i₀ out next i = length numbers - i
+μ-loop numbers out₀ next₀ i₀ out next i = length numbers - i
 
 loop-holds : tie.Need-loop-holds Inv-loop μ-loop
 loop-holds c = search needs

@@ -1,6 +1,0 @@
-pub mod Forms
-pub mod Lookup
-pub mod Widths
-pub mod Exactly
-pub mod Steps
-pub mod Stores

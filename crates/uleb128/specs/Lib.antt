@@ -1,3 +1,0 @@
-pub mod Unsigned
-pub mod Promise
-pub mod Inner

@@ -1,0 +1,33 @@
+-- What the functions of this crate promise.
+--
+--   meaning64, meaning32   what a reader's answer says: the number with its count of bytes, or the refusal's number
+--   Reads w                reading at the width w, of at most 64 bits, from the place at on answers r
+--   ReadsU64, ReadsU32     the same for each reader
+use Prim.Native.Nat.{ℕ}
+use mathlib.Core.List.{List}
+use mathlib.Core.Path.{_≡_}
+use Rattle.words.specs.Answer.{Answer, gives, refused}
+use Rattle.words.specs.Refusal.{numberOf}
+use Rattle.groups.specs.Width.{Width, read}
+use Rattle.uleb128_writing.specs.Unsigned.{u64, u32}
+use Rattle.uleb128_reading.specs.declared.ReadU64.{ReadU64}
+use Rattle.uleb128_reading.specs.declared.ReadU64.the-variants as R64
+use Rattle.uleb128_reading.specs.declared.ReadU32.{ReadU32}
+use Rattle.uleb128_reading.specs.declared.ReadU32.the-variants as R32
+
+abbrev pub meaning64 : ReadU64 → Answer (ℕ × ℕ)
+meaning64 (R64.Number v n) = gives (v, n .0)
+meaning64 (R64.Refused r) = refused (numberOf r)
+
+abbrev pub meaning32 : ReadU32 → Answer (ℕ × ℕ)
+meaning32 (R32.Number v n) = gives (v, n .0)
+meaning32 (R32.Refused r) = refused (numberOf r)
+
+pub record Reads (w : Width ℕ) (s : List ℕ) (at : ℕ) (r : ReadU64) : Type 0 where
+  pub is : meaning64 r ≡ read w s at
+
+abbrev pub ReadsU64 : List ℕ → ℕ → ReadU64 → Type 0
+ReadsU64 s at r = Reads u64 s at r
+
+pub record ReadsU32 (s : List ℕ) (at : ℕ) (r : ReadU32) : Type 0 where
+  pub is : meaning32 r ≡ read u32 s at

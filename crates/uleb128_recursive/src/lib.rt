@@ -1,0 +1,112 @@
+// Unsigned 64 bits, by recursion: after the source's `leb128-rec.rs`. Reading goes on at the next place, writing at
+// v div 128, and the bytes still allowed fall at each call.
+use uleb128_reading::ReadU64;
+use uleb128_writing::length_u64;
+use words::Count;
+use words::Place;
+use words::Refusal;
+use words::Written;
+ghost use mathlib.Core.Path.{_≡_};
+ghost use Prim.Native.Nat.{_<_, _≤_};
+ghost use lib.ListN.{length};
+ghost use Rattle.uleb128_writing.specs.Unsigned.{unsigned};
+ghost use Rattle.uleb128_reading.specs.Promise.{meaning64, Reads};
+ghost use Rattle.uleb128_recursive.specs.Promise.{ReadsU64Rec, WritesU64Rec};
+ghost use Rattle.uleb128_recursive.specs.Inner.{Joins, ahead, WritesRest, Fits};
+
+// A byte of 128 or more, in front of what was read behind it: no number is 0 behind another byte.
+fn behind(b: u8, read: ReadU64) -> ReadU64
+    requires { ⌜ Joins (meaning64 read) ⌝ }
+    ensures { λ r. ⌜ meaning64 r ≡ ahead b (meaning64 read) ⌝ }
+{
+    match read {
+        ReadU64::Number(v, count) => {
+            if v < 1 {
+                return ReadU64::Refused(Refusal::NotShortest);
+            }
+            let low = (b % 128) as u64;
+            let up = 128 * v;
+            let whole = low + up;
+            let more = count.0;
+            let n = more + 1;
+            ReadU64::Number(whole, Count(n))
+        }
+        ReadU64::Refused(refusal) => ReadU64::Refused(refusal),
+    }
+}
+
+// The number at the place, of at most left bytes.
+fn read_rest(bytes: &[u8], at: usize, left: usize) -> ReadU64
+    requires { ⌜ (at ≤ length (now bytes)) × (0 < left) × (left ≤ 10) ⌝ }
+    ensures { λ r. ⌜ Reads (unsigned left 1) (now (bytes .entry)) at r ⌝ }
+{
+    if bytes.len() <= at {
+        return ReadU64::Refused(Refusal::End);
+    }
+    let b = bytes[at];
+    if b < 128 {
+        let v = b as u64;
+        if 1 < left {
+            return ReadU64::Number(v, Count(1));
+        }
+        if 1 < b {
+            return ReadU64::Refused(Refusal::Overflow);
+        }
+        return ReadU64::Number(v, Count(1));
+    }
+    if left < 2 {
+        return ReadU64::Refused(Refusal::Overflow);
+    }
+    let next = at + 1;
+    let fewer = left - 1;
+    behind(b, read_rest(bytes, next, fewer))
+}
+
+// The same answers as `read_u64`.
+pub fn read_u64_rec(bytes: &[u8], start: Place) -> ReadU64
+    ensures { λ r. ⌜ ReadsU64Rec (now (bytes .entry)) (start .0) r ⌝ }
+{
+    let at = start.0;
+    if bytes.len() < at {
+        return ReadU64::Refused(Refusal::Place);
+    }
+    read_rest(bytes, at, 10)
+}
+
+// Stores the number's form of at most left bytes, which fits, the last byte first, and answers how many bytes it has.
+fn write_rest(v: u64, buffer: &mut [u8], at: usize, left: usize) -> usize
+    requires { ⌜ Fits v (now buffer) at left ⌝ }
+    ensures { λ r. ⌜ WritesRest v (now (buffer .entry)) at r (now (buffer .exit)) ⌝ }
+{
+    if v < 128 {
+        let byte = v as u8;
+        buffer[at] = byte;
+        return 1;
+    }
+    let next = at + 1;
+    let fewer = left - 1;
+    let up = v / 128;
+    let more = write_rest(up, buffer, next, fewer);
+    let low = (v % 128) as u8;
+    let byte = 128 + low;
+    buffer[at] = byte;
+    more + 1
+}
+
+// The same answers as `write_u64`, and the same bytes.
+pub fn write_u64_rec(v: u64, buffer: &mut [u8], place: Place) -> Written
+    ensures { λ r. ⌜ WritesU64Rec v (now (buffer .entry)) (place .0) r (now (buffer .exit)) ⌝ }
+{
+    let at = place.0;
+    let needed = length_u64(v);
+    let n = needed.0;
+    if buffer.len() < at {
+        return Written::Refused(Refusal::NoRoom);
+    }
+    let room = buffer.len() - at;
+    if room < n {
+        return Written::Refused(Refusal::NoRoom);
+    }
+    let count = write_rest(v, buffer, at, n);
+    Written::Bytes(Count(count))
+}

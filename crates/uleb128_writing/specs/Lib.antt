@@ -1,0 +1,2 @@
+pub mod Unsigned
+pub mod Promise
