@@ -33,6 +33,7 @@ use Rattle.claims.proofs.Strict.{strict-rows}
 use Rattle.claims.proofs.Stepped.{step-rows}
 use Rattle.claims.proofs.Settled.{set-down-rows}
 use Rattle.texts.proofs.Decimals.{decimal-small, decimal-large}
+use Rattle.claims.proofs.Answered.{met}
 use Rattle.claims.proofs.Listings.{lists, enough, document}
 use Rattle.claims.proofs.Turned.{turn-rows}
 
@@ -93,6 +94,7 @@ all = record {
   source-parse = parse-same;
   source-serialize = serialize-same;
   starred = starred;
+  met = met;
   one-number = λ why n m p q. p .is ∙ sym (q .is);
   one-walk = λ s at r r′ p q. p .is ∙ sym (q .is);
   one-store = λ m below n s at r r′ out out′ p q. one (groups below n m) s at r r′ out out′ p q;

@@ -34,6 +34,7 @@ pub record Laws (k : Reader) : Type 0 where
   pub refuse-means : (why : Refusal) → means (refuse k why) ≡ refused (numberOf why)
   pub same : (r r′ : Reply k) → means r ≡ means r′ → r ≡ r′
   pub says : (s : List ℕ) (at : ℕ) (r : Reply k) → Promised k s at r → means r ≡ read (width k) s at
+  pub promised : (s : List ℕ) (at : ℕ) (r : Reply k) → means r ≡ read (width k) s at → Promised k s at r
   pub sound : Sound (width k)
   pub begins : (s : List ℕ) (at : ℕ) (v : Value k) (n : ℕ) → Bytes s → read (width k) s at ≡ gives (v, n) → Begins (form k) (OfWidth k) s at v n
   pub begun : (s : List ℕ) (at : ℕ) (v : Value k) (n : ℕ) → Begins (form k) (OfWidth k) s at v n → read (width k) s at ≡ gives (v, n)
@@ -60,6 +61,7 @@ loop-laws = record {
   refuse-means = λ why. refl;
   same = same64;
   says = λ s at r p. p .is;
+  promised = λ s at r e. record { is = e };
   sound = unsigned-widths.sound 10 1 (omega arith) (omega arith);
   begins = λ s at v n. unsigned-exactly.read-begins 10 1 (omega arith) (omega arith) s at;
   begun = λ s at v n. unsigned-exactly.begins-read 10 1 (omega arith) (omega arith) s at;
@@ -74,6 +76,7 @@ laws recursive64 = record {
   refuse-means = loop-laws .refuse-means;
   same = loop-laws .same;
   says = loop-laws .says;
+  promised = λ s at r e. record { is = e };
   sound = loop-laws .sound;
   begins = loop-laws .begins;
   begun = loop-laws .begun;
@@ -84,6 +87,7 @@ laws unsigned32 = record {
   refuse-means = λ why. refl;
   same = same32;
   says = λ s at r p. p .is;
+  promised = λ s at r e. record { is = e };
   sound = unsigned-widths.sound 5 15 (omega arith) (omega arith);
   begins = λ s at v n. unsigned-exactly.read-begins 5 15 (omega arith) (omega arith) s at;
   begun = λ s at v n. unsigned-exactly.begins-read 5 15 (omega arith) (omega arith) s at;
@@ -94,6 +98,7 @@ laws signed64 = record {
   refuse-means = λ why. refl;
   same = same-i64;
   says = λ s at r p. p .is;
+  promised = λ s at r e. record { is = e };
   sound = signed-widths.sound;
   begins = λ s at v n bytes e. rewidth (λ l. within v (2 ^ 63) l) (signed-exactly.read-begins s at bytes e);
   begun = λ s at v n b. signed-exactly.begins-read s at (rewidth (λ l. within-mag v (2 ^ 63) (omega arith) (l .0) (l .1)) b);

@@ -1,6 +1,7 @@
 mod Same
 mod Rows
 mod Laws
+mod Told
 mod Trips
 mod Spelled
 mod Sources
@@ -17,4 +18,5 @@ mod Anywhere
 mod Damaged
 mod Turned
 mod Listings
+mod Answered
 pub mod All

@@ -7,22 +7,30 @@ use Prim.Native.Nat.{ℕ, zero, suc, _+_, _≤_, _<_}
 use mathlib.Core.Path.{_≡_, refl, ap, sym, _∙_}
 use mathlib.Core.List.{List, [], _++_}
 use native.Mathlib.Omega.{arith}
-use borrow.Author.Tests.{lt-ltb}
+use borrow.Author.Tests.{lt-ltb, le-ltb}
 use lib.ListN.{length, take, drop, replicate, length-replicate}
 use lib.Seq.{take-all, length-take-le, take-append-seam}
 use Rattle.words.specs.declared.Count.{Count}
 use Rattle.words.proofs.Cases.{by-order}
 use Rattle.blocks.specs.Block.{block-limit}
-use Rattle.listing.specs.Listing.{text, Stage, top, at, ended, Coming, line, line-room, next}
-use Rattle.listing.specs.Promise.{stageOf}
+use Rattle.listing.specs.Listing.{text, Stage, top, at, ended, Coming, line, lineOf, line-room, next}
+use Rattle.listing.specs.Promise.{stageOf, meaning, asked, counted, fronted, GivesLine}
 use Rattle.listing.specs.declared.Listing.{Listing}
 use Rattle.listing.specs.declared.Listing.the-variants as L
+use Rattle.listing.specs.declared.Next.{Next}
 use Rattle.listing.specs.declared.Next.the-variants as X
+use Rattle.words.specs.declared.Refusal.the-variants.{NoRoom}
+use Rattle.blocks.specs.Promise.{meaning as meaningStep}
+use Rattle.blocks.specs.declared.Rule.the-variants.{Unsigned}
+use Rattle.blocks.specs.declared.Step.{Step}
+use Rattle.blocks.specs.declared.Step.the-variants as S
+use Rattle.blocks.specs.declared.Value.the-variants as N
+use Rattle.claims.proofs.Stepped.{row-found, row-steps}
 use Rattle.listing.proofs.Lines as Lines
 use Rattle.listing.proofs.Left as Left
 use Rattle.listing.proofs.Left.{Fine, left, rank, coming}
 use Rattle.listing.proofs.Taking.{took, nothing-left}
-use Rattle.groups.specs.Group.{run, digits}
+use Rattle.groups.specs.Group.{Bytes, run, digits}
 use Rattle.groups.specs.Width.{runsOut, tooLarge, tooMany, reading}
 use Rattle.texts.specs.Texts.{ascii, decimal, decimal-within}
 use Rattle.blocks.specs.Cut.{cut}
@@ -91,3 +99,33 @@ lists s t = (whole s t, λ e. rw e (ends s))
 pub document : Document
 unfolding text row rows decimal decimal-within cut reading runsOut tooLarge tooMany run digits
 document = record { document = refl; mended = refl; empty = refl }
+
+-- what is said of what comes next
+abbrev Sayable : Coming ℕ → Type 0
+Sayable x = (r : Next) × (meaning r ≡ x)
+
+say-line : (n : ℕ) (g : Stage) → Sayable (line n g)
+say-line n g = (X.Line (record { 0 = n }) (listingAt g), rw (staged g))
+
+said-at : (p : ℕ) (r : Step) → Sayable (counted (lineOf p (meaningStep r)))
+said-at p (S.Number (N.Unsigned v) n c) = say-line _ (at (c .place .0))
+said-at p (S.Number (N.Signed v) n c) = (X.Ended, refl)
+said-at p (S.Gap why n c) = say-line _ (at (c .place .0))
+said-at p (S.Tail n c) = say-line _ ended
+said-at p (S.Finished c) = (X.Ended, refl)
+said-at p (S.Refused why) = (X.Refused why, refl)
+
+said-next : (s : List ℕ) (g : Stage) → Bytes s → Sayable (counted (next s g))
+said-next s top bytes =
+    by-order block-limit (length s) (λ h. rw (lt-ltb block-limit (length s) h) (say-line _ ended)) (λ h. rw (le-ltb block-limit (length s) h) (say-line _ (at 0)))
+said-next s (at p) bytes =
+    let f = row-found Unsigned s p bytes in
+    let w = row-steps Unsigned s p (f .0) (f .1) in
+    rw (← (w .is)) (said-at p (f .0))
+said-next s ended bytes = (X.Ended, refl)
+
+pub found-line : (g : Listing) (s before : List ℕ) → Bytes s → (r : Next) × GivesLine g s before r (fronted (asked s (stageOf g) (length before)) before)
+found-line g s before bytes =
+    by-order (length before) line-room
+    (λ h. (X.Refused NoRoom, record { answer = rw (lt-ltb (length before) line-room h); leaves = refl }))
+    (λ h. let f = said-next s (stageOf g) bytes in (f .0, record { answer = rw (le-ltb (length before) line-room h) (f .1); leaves = refl }))

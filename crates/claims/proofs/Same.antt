@@ -71,6 +71,9 @@ given-value {A} {a} {b} {m} {n} e = let q : _≡_ {A = A × ℕ} (a, m) (b, n) =
 pub given-count : {A : Type 0} {a b : A} {m n : ℕ} → _≡_ {A = Answer (A × ℕ)} (gives (a, m)) (gives (b, n)) → m ≡ n
 given-count {A} {a} {b} {m} {n} e = let q : _≡_ {A = A × ℕ} (a, m) (b, n) = cc in ap (λ (x : A × ℕ). x .1) q
 
+pub same-both : {A B : Type 0} {x y : A × B} → x .0 ≡ y .0 → x .1 ≡ y .1 → x ≡ y
+same-both {A} {B} {x} {y} e f = ap (λ (a : A). (a, x .1)) e ∙ ap (λ (b : B). (y .0, b)) f
+
 -- a promise that is met by one answer at most, whose rows meet it, and one of whose rows holds, is met exactly where a row holds
 pub by-rows : {R : Type 0} {Promise Row : R → Type 0} → ((r r′ : R) → Promise r → Promise r′ → r ≡ r′) → ((r : R) → Row r → Promise r)
     → (r : R) × Row r → (r : R) → Promise r ↔ Row r

@@ -49,7 +49,7 @@ module _ (s : List ℕ) (p : ℕ) (some : 1 ≤ p) where
 
 module _ (s : List ℕ) (p : ℕ) where
   -- one of the rows holds
-  row-found : (r : SetDown) × SetDownRow s p r
+  pub row-found : (r : SetDown) × SetDownRow s p r
   row-found =
       by-order block-limit (length s) (λ h. (D.Refused TooLong, h))
       (λ f.
@@ -98,7 +98,7 @@ module _ (s : List ℕ) (p : ℕ) where
   refused-row NoRoom h = absurd h
   refused-row NotAStart h = absurd h
 
-  row-sets : (r : SetDown) → SetDownRow s p r → SetsDown s p r
+  pub row-sets : (r : SetDown) → SetDownRow s p r → SetsDown s p r
   row-sets (D.Refused why) h = refused-row why h
   row-sets (D.At c) h =
       let k : Least s p (c .place .0) = h .1 in

@@ -18,7 +18,7 @@ use Rattle.words.specs.declared.Refusal.{Refusal}
 use Rattle.words.specs.declared.Refusal.the-variants.{End, Overflow, NotShortest, Place, NoRoom, NotAStart, TooLong, NoStart}
 use Rattle.words.proofs.Cases.{by-order, by-test, clash}
 use Rattle.groups.specs.Group.{Bytes, Group, run}
-use Rattle.groups.specs.Width.{Width, reading, runsOut, tooLarge, tooMany}
+use Rattle.groups.specs.Width.{Width, reading}
 use Rattle.groups.proofs.Run.{run-within}
 use Rattle.groups.proofs.Exact.{group-length}
 use Rattle.groups.proofs.Standing.{front-group, run-behind, reading-count}
@@ -35,6 +35,7 @@ use Rattle.blocks.specs.declared.Value.the-variants as N
 use Rattle.blocks.proofs.Rows.{step-too-long, step-past, step-finished, step-not-a-start, step-tail, group-says}
 use Rattle.claims.specs.Blocks.{Start, GroupAt, TailAt, valued, readBy, GroupReads, StepRefused, StepRow}
 use Rattle.claims.proofs.Rows.{high-run, run-high}
+use Rattle.claims.proofs.Told.{reading-told}
 use Rattle.claims.proofs.Same.{apart, same-step, by-rows}
 
 -- the test for a start
@@ -126,13 +127,9 @@ module _ (rule : Rule) (s : List ℕ) (p : ℕ) where
       record { is = rw (k .count, k .next) (gap-said rule (k .group) p (numberOf why) (k .reads) ∙ says-group (k .group) (h .0) (k .stands)) }
 
 -- a group's reading is one that an answer can tell
-module _ {A X : Type 0} (f : A → Val) (w : Width A) (g : List ℕ) where
-  heard : ((v : A) → valued f (reading w g) ≡ gives (f v) → X) → ((why : Refusal) → valued f (reading w g) ≡ refused (numberOf why) → X) → X
-  unfolding reading
-  heard value fault =
-      by-test (runsOut w g) (λ o. fault End (rw o))
-      (λ o. by-test (tooLarge w g) (λ l. fault Overflow (rw (o, l)))
-      (λ l. by-test (tooMany w g) (λ m. fault NotShortest (rw (o, l, m))) (λ m. value (w .value (take (run g + 1) g)) (rw (o, l, m)))))
+heard : {A X : Type 0} (f : A → Val) (w : Width A) (g : List ℕ) → ((v : A) → valued f (reading w g) ≡ gives (f v) → X)
+    → ((why : Refusal) → valued f (reading w g) ≡ refused (numberOf why) → X) → X
+heard f w g value fault = reading-told w g (λ v n e. value v (ap (valued f) e)) (λ why e. fault why (ap (valued f) e))
 
 abbrev count : ℕ → Count
 count n = record { 0 = n }

@@ -21,11 +21,8 @@ use Rattle.lists.specs.declared.ReadList.the-variants as L
 use Rattle.claims.specs.Table.{GapRow}
 use Rattle.claims.specs.Strict.{FirstFault, StrictRefused, StrictRow}
 use Rattle.claims.proofs.Lists.{numbers-forms, strictly}
-use Rattle.claims.proofs.Same.{same-list, by-rows}
+use Rattle.claims.proofs.Same.{same-list, same-both, by-rows}
 use Rattle.claims.proofs.Faults.{Outcome, all, broken, outcome, fault-behind}
-
-same-both : {A B : Type 0} {x y : A × B} → x .0 ≡ y .0 → x .1 ≡ y .1 → x ≡ y
-same-both {A} {B} {x} {y} e f = ap (λ (a : A). (a, x .1)) e ∙ ap (λ (b : B). (y .0, b)) f
 
 module _ (s old : List ℕ) where
   -- where its row holds, an answer with its slice is strict reading's
@@ -55,7 +52,7 @@ module _ (s old : List ℕ) where
   refused-row NotAStart h = absurd h
   refused-row NoStart h = absurd h
 
-  row-reads : (x : ReadList × List ℕ) → StrictRow s old (x .0) (x .1) → ReadsStrict s old (x .0) (x .1)
+  pub row-reads : (x : ReadList × List ℕ) → StrictRow s old (x .0) (x .1) → ReadsStrict s old (x .0) (x .1)
   row-reads (L.Refused why, out) h = rw (h .1) (refused-row why (h .0))
   row-reads (L.Filled n, out) h =
       let ns = h .1 in
@@ -84,7 +81,7 @@ module _ (s old : List ℕ) where
       by-order (length old) (length ns) (λ h. ((L.Refused NoRoom, old), ((short, ns, k, h), refl)))
       (λ h. ((L.Filled (record { 0 = length ns }), ns ++ drop (length ns) old), (short, ns, k, h, refl, refl)))
 
-  row-found : Bytes s → (x : ReadList × List ℕ) × StrictRow s old (x .0) (x .1)
+  pub row-found : Bytes s → (x : ReadList × List ℕ) × StrictRow s old (x .0) (x .1)
   row-found bytes =
       by-order block-limit (length s) (λ h. ((L.Refused TooLong, old), (h, refl)))
       (λ short. by-outcome short (outcome (suc (length s)) s (omega arith) bytes))

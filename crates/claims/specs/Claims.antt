@@ -5,7 +5,7 @@
 --   Writes                                     demand 2, writers
 --   Shortest, Signed                           how a number is spelled
 --   WriteRead, ReadWrite, MoreBehind, SomeByte round trips, and what the source calls prefix-secure and productive
---   One                                        no second answer meets a promise
+--   OneReply, .., Met                          no second answer meets a promise, and some answer does
 use Prim.Native.Nat.{ℕ, _+_, _-_, _*_, _/_, _%_, _^_, _≤_, _<_}
 use mathlib.Core.Path.{_≡_}
 use mathlib.Core.List.{List, [], _∷_, _++_}
@@ -192,6 +192,25 @@ OneWritten k = (v : Value k) (s : List ℕ) (at : ℕ) (r r′ : Written) (out o
 abbrev pub OneLength : Reader → Type 0
 OneLength k = (v : Value k) (r r′ : Count) → Length k v r → Length k v r′ → r ≡ r′
 
+-- Each promise is met by some answer, with some final content of what was lent, on every input: no claim over promises is empty.
+abbrev pub Both : {A B : Type 0} → (A → B → Type 0) → A × B → Type 0
+Both P x = P (x .0) (x .1)
+
+pub record Met : Type 0 where
+  pub number : (why : Refusal) → (n : ℕ) × Numbers why n
+  pub walk : (s : List ℕ) (at : ℕ) → (r : Walked) × Walks s at r
+  pub store : (m : ℕ) (below : Bool) (n : ℕ) (s : List ℕ) (at : ℕ) → (x : Written × List ℕ) × Both (Stores m below n s at) x
+  pub reply : (k : Reader) (s : List ℕ) (at : ℕ) → (r : Reply k) × Promised k s at r
+  pub written : (k : Reader) (v : Value k) (s : List ℕ) (at : ℕ) → (x : Written × List ℕ) × Both (Laying k v s at) x
+  pub length : (k : Reader) (v : Value k) → (n : Count) × Length k v n
+  pub step : (rule : Rule) (s : List ℕ) (p : ℕ) → Bytes s → (r : Step) × Steps rule s p r
+  pub set-down : (s : List ℕ) (p : ℕ) → (r : SetDown) × SetsDown s p r
+  pub strict : (s old : List ℕ) → Bytes s → (x : ReadList × List ℕ) × Both (ReadsStrict s old) x
+  pub list : (ns s : List ℕ) (at : ℕ) → (x : Written × List ℕ) × Both (WritesList ns s at) x
+  pub turn : (v : ℤ) → (r : Turn) × Means v r
+  pub text : (t s : List ℕ) (at : ℕ) → (x : ℕ × List ℕ) × Both (Lays t s at) x
+  pub line : (g : Listing) (s before : List ℕ) → Bytes s → (x : Next × List ℕ) × Both (GivesLine g s before) x
+
 pub record Claims : Type 0 where
   -- 1, 2. readers
   pub accepts : (k : Reader) → Accepts k
@@ -223,7 +242,8 @@ pub record Claims : Type 0 where
   pub source-serialize : (v : ℕ) → spec-serialize-helper v ≡ unsigned.form v
   -- 9. bytes to try
   pub starred : Starred
-  -- 10. no second answer
+  -- 10. an answer, and no second
+  pub met : Met
   pub one-number : (why : Refusal) (n m : ℕ) → Numbers why n → Numbers why m → n ≡ m
   pub one-walk : (s : List ℕ) (at : ℕ) (r r′ : Walked) → Walks s at r → Walks s at r′ → r ≡ r′
   pub one-store : (m : ℕ) (below : Bool) (n : ℕ) (s : List ℕ) (at : ℕ) (r r′ : Written) (out out′ : List ℕ)

@@ -1,0 +1,26 @@
+-- What a reader of numbers can say: a number, or a refusal that has a name.
+use Prim.Native.Nat.{ℕ, _+_}
+use mathlib.Core.Path.{_≡_, _∙_}
+use mathlib.Core.List.{List}
+use lib.ListN.{length, take, drop}
+use Rattle.words.specs.Answer.{gives, refused}
+use Rattle.words.specs.Refusal.{numberOf}
+use Rattle.words.specs.declared.Refusal.{Refusal}
+use Rattle.words.specs.declared.Refusal.the-variants.{End, Overflow, NotShortest, Place}
+use Rattle.words.proofs.Cases.{by-order, by-test}
+use Rattle.groups.specs.Group.{run}
+use Rattle.groups.specs.Width.{Width, reading, read, runsOut, tooLarge, tooMany}
+use Rattle.groups.proofs.Rows.{read-past, read-from}
+
+module _ {A X : Type 0} (w : Width A) where
+  pub reading-told : (g : List ℕ) → ((v : A) (n : ℕ) → reading w g ≡ gives (v, n) → X) → ((why : Refusal) → reading w g ≡ refused (numberOf why) → X) → X
+  unfolding reading
+  reading-told g value fault =
+      by-test (runsOut w g) (λ o. fault End (rw o))
+      (λ o. by-test (tooLarge w g) (λ l. fault Overflow (rw (o, l)))
+      (λ l. by-test (tooMany w g) (λ m. fault NotShortest (rw (o, l, m))) (λ m. value (w .value (take (run g + 1) g)) (run g + 1) (rw (o, l, m)))))
+
+  pub read-told : (s : List ℕ) (at : ℕ) → ((v : A) (n : ℕ) → read w s at ≡ gives (v, n) → X) → ((why : Refusal) → read w s at ≡ refused (numberOf why) → X) → X
+  read-told s at value fault =
+      by-order (length s) at (λ h. fault Place (read-past w s at h))
+      (λ h. reading-told (drop at s) (λ v n e. value v n (read-from w s at h ∙ e)) (λ why e. fault why (read-from w s at h ∙ e)))
