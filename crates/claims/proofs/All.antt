@@ -1,14 +1,13 @@
 -- The one value of `Claims`: everything that is claimed, proved.
-use Prim.Native.Nat.{ℕ, _^_, _-_, _<_}
-use mathlib.Core.Path.{_≡_, refl, ap, sym, _∙_}
+use Prim.Native.Nat.{_^_, _-_, _<_}
+use mathlib.Core.Path.{_≡_, refl, sym, _∙_}
 use mathlib.Core.List.{[], _∷_}
 use native.Mathlib.Nat.{lt-trans}
 use native.Mathlib.Omega.{arith}
 use lib.IntN.{pos}
 use lib.ListN.{length}
-use Rattle.words.specs.declared.Count.{Count}
 use Rattle.groups.specs.Group.{run, digits}
-use Rattle.groups.specs.Form.{groups, spell, spellings}
+use Rattle.groups.specs.Form.{spell, spellings}
 use Rattle.groups.specs.Width.{runsOut, tooLarge, tooMany, reading, read}
 use Rattle.groups.proofs.Spelling.{some-bytes}
 use Rattle.uleb128_writing.specs.Unsigned as unsigned
@@ -16,14 +15,13 @@ use Rattle.uleb128_writing.proofs.Forms.{form-short, form-some}
 use Rattle.sleb128.specs.Signed as signed
 use Rattle.sleb128.proofs.Forms.{form-spelled}
 use Rattle.claims.specs.Readers.{Reader, loop64, recursive64, unsigned32, signed64, Value, form}
-use Rattle.claims.specs.Writers.{Length}
 use Rattle.claims.specs.Try.{Starred}
-use Rattle.claims.specs.Claims.{Claims, Most, zero-of, OneLength}
-use Rattle.claims.proofs.Laws.{laws, accepts, refuses, excludes, exhausts, one-reply, within, within-mag}
-use Rattle.claims.proofs.Trips.{writes, writes-list, write-read, read-write, more-behind, some-byte, one, one-written}
+use Rattle.claims.specs.Claims.{Claims, Most, zero-of}
+use Rattle.claims.proofs.Laws.{laws, accepts, refuses, excludes, exhausts, within, within-mag}
+use Rattle.claims.proofs.Trips.{writes, writes-list, write-read, read-write, more-behind, some-byte}
 use Rattle.claims.proofs.Spelled.{two-sentences, twos-complement, signed-form, one-too-many, signed-most}
 use Rattle.claims.proofs.Sources.{parse-same, serialize-same}
-use Rattle.claims.proofs.Same.{same-step, same-set, same-list, same-written, same-next}
+use Rattle.claims.proofs.Same.{same64}
 use Rattle.claims.proofs.Damaged.{front, back, front-read, back-read}
 use Rattle.claims.proofs.Readings.{reader-from}
 use Rattle.claims.proofs.Anywhere.{reader-set-down, front-lost}
@@ -33,18 +31,9 @@ use Rattle.claims.proofs.Strict.{strict-rows}
 use Rattle.claims.proofs.Stepped.{step-rows}
 use Rattle.claims.proofs.Settled.{set-down-rows}
 use Rattle.texts.proofs.Decimals.{decimal-small, decimal-large}
-use Rattle.claims.proofs.Answered.{met}
+use Rattle.claims.proofs.Answered.{length-is, same-lays, met, one}
 use Rattle.claims.proofs.Listings.{lists, enough, document}
 use Rattle.claims.proofs.Turned.{turn-rows}
-
-length-is : (k : Reader) (v : Value k) (n : Count) → Length k v n → n .0 ≡ length (form k v)
-length-is loop64 v n p = p .is
-length-is recursive64 v n p = p .is
-length-is unsigned32 v n p = p .is
-length-is signed64 v n p = p .is
-
-one-length : (k : Reader) → OneLength k
-one-length k v r r′ p q = ap (λ (n : ℕ). record { 0 = n }) (length-is k v r p ∙ sym (length-is k v r′ q))
 
 zero-takes-one : (k : Reader) → form k (zero-of k) ≡ 0 ∷ []
 unfolding unsigned.form signed.form spell spellings
@@ -85,8 +74,8 @@ all = record {
   twos-complement = twos-complement;
   signed-form = signed-form;
   one-too-many = λ g r. one-too-many r;
-  read-alike = λ s at r r′ p q. one-reply loop64 (laws loop64) s at r r′ p q;
-  write-alike = λ v s at r r′ out out′ p q. one-written loop64 v s at r r′ out out′ p q;
+  read-alike = λ s at r r′ p q. same64 r r′ (p .is ∙ sym (q .is));
+  write-alike = λ v s at r r′ out out′ p q. same-lays p q;
   write-read = λ k. write-read k (laws k);
   read-write = λ k. read-write k (laws k);
   more-behind = λ k. more-behind k (laws k);
@@ -94,13 +83,6 @@ all = record {
   source-parse = parse-same;
   source-serialize = serialize-same;
   starred = starred;
-  met = met;
-  one-number = λ why n m p q. p .is ∙ sym (q .is);
-  one-walk = λ s at r r′ p q. p .is ∙ sym (q .is);
-  one-store = λ m below n s at r r′ out out′ p q. one (groups below n m) s at r r′ out out′ p q;
-  one-reply = λ k. one-reply k (laws k);
-  one-written = one-written;
-  one-length = one-length;
   read-group = read-group;
   step-rows = step-rows;
   set-down-rows = set-down-rows;
@@ -111,19 +93,14 @@ all = record {
   reader-from = reader-from;
   reader-set-down = reader-set-down;
   front-lost = front-lost;
-  one-step = λ rule s p r r′ a b. same-step r r′ (a .is ∙ sym (b .is));
-  one-set-down = λ s p r r′ a b. same-set r r′ (a .is ∙ sym (b .is));
   strict-rows = strict-rows;
   writes-list = writes-list;
   list-back = list-back;
-  one-strict = λ s old r r′ out out′ a b. (same-list r r′ (a .answer ∙ sym (b .answer)), a .leaves ∙ sym (b .leaves));
-  one-list = λ ns s at r r′ out out′ a b. (same-written r r′ (a .answer ∙ sym (b .answer)), a .leaves ∙ sym (b .leaves));
   turn-rows = turn-rows;
-  one-turn = λ v r r′ a b. a .is ∙ sym (b .is);
   digits = λ v. (decimal-small v, decimal-large v);
   listing = lists;
   listing-front = enough;
   listing-document = document;
-  one-text = λ t s at r r′ out out′ a b. (a .place ∙ sym (b .place), a .bytes ∙ sym (b .bytes));
-  one-line = λ g s before r r′ after after′ a b. (same-next r r′ (a .answer ∙ sym (b .answer)), a .leaves ∙ sym (b .leaves));
+  met = met;
+  one = one;
 }

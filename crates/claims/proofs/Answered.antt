@@ -1,6 +1,6 @@
--- Each promise is met by some answer.
+-- Each promise is met by an answer, and by no second.
 use Prim.Native.Nat.{ℕ, _+_, _-_}
-use mathlib.Core.Path.{refl, sym, _∙_}
+use mathlib.Core.Path.{_≡_, refl, ap, sym, _∙_}
 use mathlib.Core.List.{List, _++_}
 use borrow.Author.Tests.{lt-ltb, le-ltb}
 use lib.ListN.{length, take, drop}
@@ -21,10 +21,12 @@ use Rattle.lists.specs.Lists.{list-limit, forms}
 use Rattle.lists.specs.Promise.{WritesList}
 use Rattle.turns.specs.Turns.{turnOf}
 use Rattle.listing.specs.Promise.{stageOf, asked, fronted}
-use Rattle.claims.specs.Readers.{Reader, loop64, recursive64, unsigned32, signed64, Value, Reply, number, refuse, Promised, width}
+use Rattle.claims.specs.Readers.{Reader, loop64, recursive64, unsigned32, signed64, Value, Reply, number, refuse, Promised, width, form}
 use Rattle.claims.specs.Writers.{Laying, Length}
-use Rattle.claims.specs.Claims.{Both, Met}
+use Rattle.claims.specs.Claims.{Both, Met, One}
 use Rattle.claims.proofs.Laws.{laws}
+use Rattle.claims.proofs.Same.{same-written, same-step, same-set, same-list, same-next}
+use Rattle.claims.proofs.Trips.{lays as lays-form}
 use Rattle.claims.proofs.Told.{read-told}
 use Rattle.claims.proofs.Stepped.{row-steps}
 use Rattle.claims.proofs.Stepped.{row-found as step-found}
@@ -83,4 +85,30 @@ met = record {
   turn = λ v. (turnOf v, record { is = refl });
   text = λ t s at. ((at + length (take (length s - at) t), sets s at (take (length s - at) t)), record { place = refl; bytes = refl });
   line = λ g s before bytes. let f = found-line g s before bytes in ((f .0, fronted (asked s (stageOf g) (length before)) before), f .1);
+}
+
+pub same-lays : {bytes s : List ℕ} {at : ℕ} {r r′ : Written} {out out′ : List ℕ} → Lays bytes s at r out → Lays bytes s at r′ out′ → (r ≡ r′) × (out ≡ out′)
+same-lays {bytes} {s} {at} {r} {r′} a b = (same-written r r′ (a .answer ∙ sym (b .answer)), a .leaves ∙ sym (b .leaves))
+
+pub length-is : (k : Reader) (v : Value k) (n : Count) → Length k v n → n .0 ≡ length (form k v)
+length-is loop64 v n p = p .is
+length-is recursive64 v n p = p .is
+length-is unsigned32 v n p = p .is
+length-is signed64 v n p = p .is
+
+pub one : One
+one = record {
+  number = λ why n m p q. p .is ∙ sym (q .is);
+  walk = λ s at r r′ p q. p .is ∙ sym (q .is);
+  store = λ m below n s at r r′ out out′ p q. same-lays p q;
+  reply = λ k s at r r′ p q. laws k .same r r′ (laws k .says s at r p ∙ sym (laws k .says s at r′ q));
+  written = λ k v s at r r′ out out′ p q. same-lays (lays-form k v p) (lays-form k v q);
+  length = λ k v r r′ p q. ap (λ (n : ℕ). record { 0 = n }) (length-is k v r p ∙ sym (length-is k v r′ q));
+  step = λ rule s p r r′ a b. same-step r r′ (a .is ∙ sym (b .is));
+  set-down = λ s p r r′ a b. same-set r r′ (a .is ∙ sym (b .is));
+  strict = λ s old r r′ out out′ a b. (same-list r r′ (a .answer ∙ sym (b .answer)), a .leaves ∙ sym (b .leaves));
+  list = λ ns s at r r′ out out′ a b. (same-written r r′ (a .answer ∙ sym (b .answer)), a .leaves ∙ sym (b .leaves));
+  turn = λ v r r′ a b. a .is ∙ sym (b .is);
+  text = λ t s at r r′ out out′ a b. (a .place ∙ sym (b .place), a .bytes ∙ sym (b .bytes));
+  line = λ g s before r r′ after after′ a b. (same-next r r′ (a .answer ∙ sym (b .answer)), a .leaves ∙ sym (b .leaves));
 }

@@ -24,7 +24,7 @@ use Rattle.sleb128.proofs.Widths as signed-widths
 use Rattle.sleb128.proofs.Exactly as signed-exactly
 use Rattle.claims.specs.Readers.{Reader, loop64, recursive64, unsigned32, signed64, Value, Reply, number, refuse, Promised, width, form, OfWidth}
 use Rattle.claims.specs.Table.{Row}
-use Rattle.claims.specs.Claims.{Accepts, Refuses, Excludes, Exhausts, OneReply}
+use Rattle.claims.specs.Claims.{Accepts, Refuses, Excludes, Exhausts}
 use Rattle.claims.proofs.Same.{same64, same32, same-i64, apart, refused-same}
 use Rattle.claims.proofs.Rows.{row-refused, decide}
 
@@ -151,7 +151,3 @@ exhausts k l s at bytes =
     (λ (g : (v : Value k) × (n : ℕ) × Stands (width k) s at v n).
     inr (g .0, g .1, l .begins s at (g .0) (g .1) bytes (standing (width k) s at (g .2))))
     (decide (width k) (l .sound) s at bytes)
-
--- 10
-pub one-reply : (k : Reader) → Laws k → OneReply k
-one-reply k l s at r r′ p q = l .same r r′ (l .says s at r p ∙ sym (l .says s at r′ q))

@@ -19,4 +19,5 @@ mod Damaged
 mod Turned
 mod Listings
 mod Answered
+mod Instances
 pub mod All

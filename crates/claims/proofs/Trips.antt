@@ -20,7 +20,7 @@ use Rattle.lists.specs.Lists.{list-limit, forms}
 use Rattle.lists.specs.Promise.{WritesList}
 use Rattle.claims.specs.Readers.{Reader, loop64, recursive64, unsigned32, signed64, Value, number, Promised, form, OfWidth}
 use Rattle.claims.specs.Writers.{Laying}
-use Rattle.claims.specs.Claims.{LaysExactly, Writes, WritesLists, WriteRead, ReadWrite, MoreBehind, SomeByte, OneWritten}
+use Rattle.claims.specs.Claims.{LaysExactly, Writes, WritesLists, WriteRead, ReadWrite, MoreBehind, SomeByte}
 use Rattle.claims.proofs.Same.{same-written, apart, refused-same}
 use Rattle.claims.proofs.Laws.{Laws, number-read, read-number}
 
@@ -58,11 +58,8 @@ module _ (bytes s : List ℕ) (at : ℕ) (r : Written) (out : List ℕ) (w : Lay
     kept,
   )
 
-pub one : (bytes s : List ℕ) (at : ℕ) (r r′ : Written) (out out′ : List ℕ) → Lays bytes s at r out → Lays bytes s at r′ out′ → (r ≡ r′) × (out ≡ out′)
-one bytes s at r r′ out out′ a b = (same-written r r′ (a .answer ∙ sym (b .answer)), a .leaves ∙ sym (b .leaves))
-
 -- each writer lays its form down
-lays : (k : Reader) (v : Value k) {s out : List ℕ} {at : ℕ} {r : Written} → Laying k v s at r out → Lays (form k v) s at r out
+pub lays : (k : Reader) (v : Value k) {s out : List ℕ} {at : ℕ} {r : Written} → Laying k v s at r out → Lays (form k v) s at r out
 lays loop64 v p = p
 lays recursive64 v p = p
 lays unsigned32 v p = p
@@ -93,10 +90,6 @@ writes-list ns before at r after w = (
         by-order (length before) (at + length (forms ns))
         (λ h. let z = refused-same NoRoom TooLong (ap meaning (sym (no-room (forms ns) before at r after l h .0) ∙ e)) in let q : _≡_ {A = ℕ} 5 7 = ap numberOf z in absurd (omega arith))
         (λ h. apart (ap meaning (sym (fits (forms ns) before at r after l h .0) ∙ e)))
-
--- 10
-pub one-written : (k : Reader) → OneWritten k
-one-written k v s at r r′ out out′ p q = one (form k v) s at r r′ out out′ (lays k v p) (lays k v q)
 
 -- 7
 pub write-read : (k : Reader) → Laws k → WriteRead k

@@ -5,7 +5,7 @@
 --   Writes                                     demand 2, writers
 --   Shortest, Signed                           how a number is spelled
 --   WriteRead, ReadWrite, MoreBehind, SomeByte round trips, and what the source calls prefix-secure and productive
---   OneReply, .., Met                          no second answer meets a promise, and some answer does
+--   Met, One                                   an answer meets each promise, and no second
 use Prim.Native.Nat.{ℕ, _+_, _-_, _*_, _/_, _%_, _^_, _≤_, _<_}
 use mathlib.Core.Path.{_≡_}
 use mathlib.Core.List.{List, [], _∷_, _++_}
@@ -181,18 +181,7 @@ SpecParse = (s : List ℕ) → Bytes s →
     ((v n : ℕ) → (spec-parse s ≡ some (n, v)) ↔ (read unsigned.u64 s 0 ≡ gives (v, n)))
     × ((spec-parse s ≡ none) ↔ ((why : ℕ) × (read unsigned.u64 s 0 ≡ refused why)))
 
--- 10. No second answer meets a promise, and no second final content of a lent slice.
-abbrev pub OneReply : Reader → Type 0
-OneReply k = (s : List ℕ) (at : ℕ) (r r′ : Reply k) → Promised k s at r → Promised k s at r′ → r ≡ r′
-
-abbrev pub OneWritten : Reader → Type 0
-OneWritten k = (v : Value k) (s : List ℕ) (at : ℕ) (r r′ : Written) (out out′ : List ℕ)
-    → Laying k v s at r out → Laying k v s at r′ out′ → (r ≡ r′) × (out ≡ out′)
-
-abbrev pub OneLength : Reader → Type 0
-OneLength k = (v : Value k) (r r′ : Count) → Length k v r → Length k v r′ → r ≡ r′
-
--- Each promise is met by some answer, with some final content of what was lent, on every input: no claim over promises is empty.
+-- 10. Each promise is met by some answer, with some final content of what was lent, on every input: no claim over promises is empty.
 abbrev pub Both : {A B : Type 0} → (A → B → Type 0) → A × B → Type 0
 Both P x = P (x .0) (x .1)
 
@@ -210,6 +199,26 @@ pub record Met : Type 0 where
   pub turn : (v : ℤ) → (r : Turn) × Means v r
   pub text : (t s : List ℕ) (at : ℕ) → (x : ℕ × List ℕ) × Both (Lays t s at) x
   pub line : (g : Listing) (s before : List ℕ) → Bytes s → (x : Next × List ℕ) × Both (GivesLine g s before) x
+
+-- And by no second: no second answer, and no second final content of what was lent.
+pub record One : Type 0 where
+  pub number : (why : Refusal) (n m : ℕ) → Numbers why n → Numbers why m → n ≡ m
+  pub walk : (s : List ℕ) (at : ℕ) (r r′ : Walked) → Walks s at r → Walks s at r′ → r ≡ r′
+  pub store : (m : ℕ) (below : Bool) (n : ℕ) (s : List ℕ) (at : ℕ) (r r′ : Written) (out out′ : List ℕ)
+      → Stores m below n s at r out → Stores m below n s at r′ out′ → (r ≡ r′) × (out ≡ out′)
+  pub reply : (k : Reader) (s : List ℕ) (at : ℕ) (r r′ : Reply k) → Promised k s at r → Promised k s at r′ → r ≡ r′
+  pub written : (k : Reader) (v : Value k) (s : List ℕ) (at : ℕ) (r r′ : Written) (out out′ : List ℕ)
+      → Laying k v s at r out → Laying k v s at r′ out′ → (r ≡ r′) × (out ≡ out′)
+  pub length : (k : Reader) (v : Value k) (r r′ : Count) → Length k v r → Length k v r′ → r ≡ r′
+  pub step : (rule : Rule) (s : List ℕ) (p : ℕ) (r r′ : Step) → Steps rule s p r → Steps rule s p r′ → r ≡ r′
+  pub set-down : (s : List ℕ) (p : ℕ) (r r′ : SetDown) → SetsDown s p r → SetsDown s p r′ → r ≡ r′
+  pub strict : (s old : List ℕ) (r r′ : ReadList) (out out′ : List ℕ) → ReadsStrict s old r out → ReadsStrict s old r′ out′ → (r ≡ r′) × (out ≡ out′)
+  pub list : (ns s : List ℕ) (at : ℕ) (r r′ : Written) (out out′ : List ℕ) → WritesList ns s at r out → WritesList ns s at r′ out′
+      → (r ≡ r′) × (out ≡ out′)
+  pub turn : (v : ℤ) (r r′ : Turn) → Means v r → Means v r′ → r ≡ r′
+  pub text : (t s : List ℕ) (at r r′ : ℕ) (out out′ : List ℕ) → Lays t s at r out → Lays t s at r′ out′ → (r ≡ r′) × (out ≡ out′)
+  pub line : (g : Listing) (s before : List ℕ) (r r′ : Next) (after after′ : List ℕ) → GivesLine g s before r after → GivesLine g s before r′ after′
+      → (r ≡ r′) × (after ≡ after′)
 
 pub record Claims : Type 0 where
   -- 1, 2. readers
@@ -242,15 +251,6 @@ pub record Claims : Type 0 where
   pub source-serialize : (v : ℕ) → spec-serialize-helper v ≡ unsigned.form v
   -- 9. bytes to try
   pub starred : Starred
-  -- 10. an answer, and no second
-  pub met : Met
-  pub one-number : (why : Refusal) (n m : ℕ) → Numbers why n → Numbers why m → n ≡ m
-  pub one-walk : (s : List ℕ) (at : ℕ) (r r′ : Walked) → Walks s at r → Walks s at r′ → r ≡ r′
-  pub one-store : (m : ℕ) (below : Bool) (n : ℕ) (s : List ℕ) (at : ℕ) (r r′ : Written) (out out′ : List ℕ)
-      → Stores m below n s at r out → Stores m below n s at r′ out′ → (r ≡ r′) × (out ≡ out′)
-  pub one-reply : (k : Reader) → OneReply k
-  pub one-written : (k : Reader) → OneWritten k
-  pub one-length : (k : Reader) → OneLength k
   -- blocks: each answer exactly when, and demand 3
   pub read-group : (k : Reader) (g : List ℕ) → Group g → ReadGroup k g
   pub step-rows : (rule : Rule) (s : List ℕ) (p : ℕ) (r : Step) → Bytes s → Steps rule s p r ↔ StepRow rule s p r
@@ -262,23 +262,17 @@ pub record Claims : Type 0 where
   pub reader-from : ReaderFrom
   pub reader-set-down : ReaderSetDown
   pub front-lost : FrontLost
-  pub one-step : (rule : Rule) (s : List ℕ) (p : ℕ) (r r′ : Step) → Steps rule s p r → Steps rule s p r′ → r ≡ r′
-  pub one-set-down : (s : List ℕ) (p : ℕ) (r r′ : SetDown) → SetsDown s p r → SetsDown s p r′ → r ≡ r′
   -- lists
   pub strict-rows : (s old : List ℕ) (r : ReadList) (out : List ℕ) → Bytes s → ReadsStrict s old r out ↔ StrictRow s old r out
   pub writes-list : WritesLists
   pub list-back : ListBack
-  pub one-strict : (s old : List ℕ) (r r′ : ReadList) (out out′ : List ℕ) → ReadsStrict s old r out → ReadsStrict s old r′ out′ → (r ≡ r′) × (out ≡ out′)
-  pub one-list : (ns s : List ℕ) (at : ℕ) (r r′ : Written) (out out′ : List ℕ) → WritesList ns s at r out → WritesList ns s at r′ out′
-      → (r ≡ r′) × (out ≡ out′)
   -- turns
   pub turn-rows : (v : ℤ) (r : Turn) → Means v r ↔ TurnRow v r
-  pub one-turn : (v : ℤ) (r r′ : Turn) → Means v r → Means v r′ → r ≡ r′
   -- the listing
   pub digits : Digits
   pub listing : Lists
   pub listing-front : FrontEnough
   pub listing-document : Document
-  pub one-text : (t s : List ℕ) (at r r′ : ℕ) (out out′ : List ℕ) → Lays t s at r out → Lays t s at r′ out′ → (r ≡ r′) × (out ≡ out′)
-  pub one-line : (g : Listing) (s before : List ℕ) (r r′ : Next) (after after′ : List ℕ) → GivesLine g s before r after → GivesLine g s before r′ after′
-      → (r ≡ r′) × (after ≡ after′)
+  -- 10. an answer, and no second
+  pub met : Met
+  pub one : One

@@ -1,0 +1,110 @@
+-- An instance for each hypothesis of the claims that `met` does not already give: no claim is empty.
+--
+--   written, number   write-read, read-write, more-behind, some-byte: zero is written into a buffer of one byte, and read there
+--   list              list-back: a list of one number is written
+--   group             read-group: a group
+--   before, behind    damage-front, damage-back: in the block 05 80 07 03 the stretch 80 is replaced by nothing
+--   old, new          both are blocks, so that damage-front-read and damage-back-read speak of them
+--   set-down, lost    reader-set-down, front-lost: at place 1 of 05 06, and of 05 06 07 whose first byte is lost
+use Prim.Native.Nat.{ℕ, zero, suc, _+_, _<_}
+use mathlib.Core.Path.{refl}
+use mathlib.Core.List.{List, [], _∷_, _++_}
+use mathlib.Core.Logic.{inl, inr}
+use native.Mathlib.Omega.{arith}
+use lib.ListN.{length, drop}
+use Rattle.words.specs.declared.Count.{Count}
+use Rattle.words.specs.declared.Written.the-variants as W
+use Rattle.groups.specs.Form.{spell, spellings}
+use Rattle.groups.specs.Group.{Bytes, Group, one, run, digits}
+use Rattle.groups.specs.Laying.{writing, laid}
+use Rattle.groups.specs.Width.{runsOut, tooLarge, tooMany, reading, read}
+use Rattle.uleb128_writing.specs.Unsigned as unsigned
+use Rattle.sleb128.specs.Signed as signed
+use Rattle.blocks.specs.Block.{settingDown}
+use Rattle.blocks.specs.Promise.{SetsDown}
+use Rattle.blocks.specs.declared.Cursor.{Cursor}
+use Rattle.blocks.specs.declared.SetDown.the-variants as D
+use Rattle.lists.specs.Lists.{forms}
+use Rattle.lists.specs.Promise.{WritesList}
+use Rattle.claims.specs.Readers.{Reader, loop64, recursive64, unsigned32, signed64, number, Promised}
+use Rattle.claims.specs.Writers.{Laying}
+use Rattle.claims.specs.Blocks.{GroupAt}
+use Rattle.claims.specs.Readings.{Block}
+use Rattle.claims.specs.Claims.{zero-of}
+
+abbrev count : ℕ → Count
+count n = record { 0 = n }
+
+abbrev cursor : ℕ → Cursor
+cursor p = record { place = record { 0 = p } }
+
+module _ where
+  written : (k : Reader) → Laying k (zero-of k) (1 ∷ []) 0 (W.Bytes (count 1)) (0 ∷ [])
+  unfolding unsigned.form signed.form spell spellings writing laid
+  written loop64 = record { answer = refl; leaves = refl }
+  written recursive64 = record { answer = refl; leaves = refl }
+  written unsigned32 = record { answer = refl; leaves = refl }
+  written signed64 = record { answer = refl; leaves = refl }
+
+  read-back : (k : Reader) → Promised k (0 ∷ []) 0 (number k (zero-of k) (count 1))
+  unfolding read reading runsOut tooLarge tooMany run digits signed.twos
+  read-back loop64 = record { is = refl }
+  read-back recursive64 = record { is = refl }
+  read-back unsigned32 = record { is = refl }
+  read-back signed64 = record { is = refl }
+
+  list : WritesList (0 ∷ []) (1 ∷ []) 0 (W.Bytes (count 1)) (0 ∷ [])
+  unfolding forms unsigned.form spell spellings writing laid
+  list = record { answer = refl; leaves = refl }
+
+  group : Group (3 ∷ [])
+  group = one {b = 3} (omega arith)
+
+-- a = 05, x = 80, y nothing, b = 07 03: behind the first byte below 128 past the stretch stands 03, at place 3 and then at 2
+abbrev a : List ℕ
+a = 5 ∷ []
+
+abbrev x : List ℕ
+x = 0x80 ∷ []
+
+abbrev b : List ℕ
+b = 7 ∷ 3 ∷ []
+
+module _ where
+  before : GroupAt (a ++ x ++ b) 0 (5 ∷ [])
+  before = record { start = record { here = omega arith; behind = inl refl }; is-group = one {b = 5} (omega arith); there = refl }
+
+  behind : (length (a ++ x) + run b < 3) × GroupAt (a ++ x ++ b) 3 (3 ∷ [])
+  unfolding run
+  behind = (omega arith, record { start = record { here = omega arith; behind = inr (omega arith, omega arith) }; is-group = group; there = refl })
+
+  small : (s : List ℕ) → Bytes s → length s < 5 → Block s
+  small s bytes h = record { bytes = bytes; short = omega arith }
+
+  old : Block (a ++ x ++ b)
+  old = small (a ++ x ++ b) bytes (omega arith)
+    where
+      bytes : Bytes (a ++ x ++ b)
+      bytes zero = omega arith
+      bytes (suc zero) = omega arith
+      bytes (suc (suc zero)) = omega arith
+      bytes (suc (suc (suc zero))) = omega arith
+      bytes (suc (suc (suc (suc i)))) = omega arith
+
+  new : Block (a ++ [] ++ b)
+  new = small (a ++ [] ++ b) bytes (omega arith)
+    where
+      bytes : Bytes (a ++ [] ++ b)
+      bytes zero = omega arith
+      bytes (suc zero) = omega arith
+      bytes (suc (suc zero)) = omega arith
+      bytes (suc (suc (suc i))) = omega arith
+
+module _ where
+  set-down : SetsDown (5 ∷ 6 ∷ []) 1 (D.At (cursor 1))
+  unfolding settingDown run
+  set-down = record { is = refl }
+
+  lost : SetsDown (drop 1 (5 ∷ 6 ∷ 7 ∷ [])) 1 (D.At (cursor 1))
+  unfolding settingDown run
+  lost = record { is = refl }
