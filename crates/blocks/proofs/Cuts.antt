@@ -8,7 +8,6 @@
 --   longer                a group that takes up a part's tail is longer than it
 --   tail-run              the bytes of 128 or more behind a part go on those of its tail
 --   nothing-left          behind a tail there is nothing
---   run-front             a group is as long alone
 use Prim.Native.Nat.{ℕ, suc, _+_, _≤_, _<_}
 use mathlib.Core.Path.{_≡_, refl, ap, sym, _∙_}
 use mathlib.Core.List.{List, [], _∷_, _++_}
@@ -155,13 +154,3 @@ pub nothing-left : (b : List ℕ) → length b ≤ run b → drop (run b + 1) b 
 nothing-left b h =
     let all : run b ≡ length b = omega (arith, run-within b) in
     sym (drop-drop 1 (run b) b) ∙ ap (drop 1) (ap (λ (i : ℕ). drop i b) all ∙ drop-length b)
-
--- a group is as long alone
-pub run-front : (l : List ℕ) → run (take (run l + 1) l) ≡ run l
-unfolding run
-run-front [] = refl
-run-front (b ∷ l) =
-    by-order b 128 (λ low. rw (run-low b l low) (run-low b [] low))
-    (λ high.
-    let ih : run (take (suc (run l)) l) ≡ run l = rw add-one at (run-front l) in
-    rw (run-high b l high, add-one) (run-high b (take (suc (run l)) l) high ∙ ap suc ih))

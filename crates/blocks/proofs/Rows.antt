@@ -6,14 +6,14 @@ use mathlib.Core.Bool.{true, false}
 use native.Mathlib.Omega.{arith}
 use borrow.Author.Tests.{lt-ltb, le-ltb, le-leb, lt-leb, eq-eqb, ne-eqb}
 use lib.ListN.{length, take, drop, length-drop}
-use Rattle.words.specs.Answer.{gives}
+use lib.Seq.{length-take-le}
+use Rattle.words.specs.Answer.{Answer, gives}
 use Rattle.words.specs.declared.Count.{Count}
 use Rattle.words.specs.declared.Refusal.the-variants as Why
 use Rattle.groups.specs.Group.{run}
 use Rattle.groups.proofs.Run.{run-within}
-use Rattle.blocks.specs.Block.{block-limit, isStart, finished, saysBy, stepping, settingDown}
-use Rattle.blocks.specs.Inner.{SaysBy}
-use Rattle.blocks.specs.Promise.{Steps, SetsDown}
+use Rattle.blocks.specs.Block.{block-limit, isStart, Val, finished, readBy, says, saysBy, stepping, settingDown}
+use Rattle.blocks.specs.Promise.{meaning, Steps, SetsDown}
 use Rattle.blocks.specs.declared.Cursor.{Cursor}
 use Rattle.blocks.specs.declared.Rule.{Rule}
 use Rattle.blocks.specs.declared.Step.{Step}
@@ -70,8 +70,11 @@ module _ (rule : Rule) (s : List ℕ) (p : ℕ) where
               ne-eqb (run (drop p s)) (length (drop p s)) ne,
             )
 
-        pub step-group : {r : Step} → p + run (drop p s) < length s → SaysBy rule s p r → Steps rule s p r
-        step-group h q = record { is = q .is ∙ sym (group-says h) }
+        pub step-group : {r : Step} {a : Answer Val} {n : ℕ} → p + run (drop p s) < length s → n ≡ run (drop p s) + 1
+            → a ≡ readBy rule (take (run (drop p s) + 1) (drop p s)) → meaning r ≡ says a n p → Steps rule s p r
+        step-group {a = a} h c e q =
+            let size = length-take-le (run (drop p s) + 1) (drop p s) (omega (arith, length-drop p s)) in
+            record { is = q ∙ ap (λ (i : ℕ). says a i p) (c ∙ sym size) ∙ ap (λ (b : Answer Val). says b (length (take (run (drop p s) + 1) (drop p s))) p) e ∙ sym (group-says h) }
 
 module _ (s : List ℕ) (p : ℕ) where
   pub set-too-long : block-limit < length s → SetsDown s p (D.Refused Why.TooLong)

@@ -1,40 +1,40 @@
--- What the group at a place says, from what a reader of numbers answers there.
-use Prim.Native.Nat.{ℕ, _+_}
+-- What a reader of numbers says at a group's place is the reading of the group alone.
+--
+--   told        a reader's answer r, which was matched as q, said as a reading
+--   read-alone  by any rule, reading at the place is reading the group
+--   said-number, said-gap   what a step says of a group, by its reading
+use Prim.Native.Nat.{ℕ, _+_, _<_}
 use mathlib.Core.Path.{_≡_, ap, sym, _∙_}
 use mathlib.Core.List.{List}
 use native.Mathlib.Omega.{arith}
 use lib.ListN.{length, take, drop, length-drop}
-use lib.Seq.{length-take-le, getD-drop}
+use lib.Seq.{getD-drop}
 use Rattle.words.specs.Answer.{Answer, gives, refused}
 use Rattle.groups.specs.Group.{Bytes, run}
 use Rattle.groups.specs.Width.{Width, reading, read}
 use Rattle.groups.proofs.Rows.{read-from}
-use Rattle.groups.proofs.Standing.{reading-count, alone}
-use Rattle.blocks.specs.Block.{Val, number, gap, says}
-use Rattle.blocks.specs.Inner.{GroupAt}
+use Rattle.groups.proofs.Standing.{alone}
+use Rattle.uleb128_writing.specs.Unsigned.{u64}
+use Rattle.sleb128.specs.Signed.{i64}
+use Rattle.blocks.specs.Block.{Val, unsigned, signed, number, gap, valued, readBy, says}
+use Rattle.blocks.specs.Inner.{read-by}
+use Rattle.blocks.specs.declared.Rule.{Rule}
+use Rattle.blocks.specs.declared.Rule.the-variants.{Unsigned, Signed}
 
-module _ {A : Type 0} (w : Width A) {s : List ℕ} {p n : ℕ} (k : GroupAt n s p) where
-  size : length (take (run (drop p s) + 1) (drop p s)) ≡ n
-  size = length-take-le (run (drop p s) + 1) (drop p s) (omega (arith, k .many, k .ends, length-drop p s)) ∙ k .many
+pub told : {A R : Type 0} (meaning : R → Answer (A × ℕ)) (f : A → Val) {a : Answer (A × ℕ)} {r q : R} → meaning r ≡ a → r ≡ q → valued f (meaning q) ≡ valued f a
+told meaning f e g = ap (valued f) (ap meaning (sym g) ∙ e)
 
-  whole : Bytes s → read w s p ≡ reading w (take (run (drop p s) + 1) (drop p s))
-  whole bytes =
-      read-from w s p (omega (arith, k .ends))
-      ∙ alone w (drop p s) (λ i. rw (getD-drop p s i 0) (bytes (p + i))) (omega (arith, k .many, k .ends, length-drop p s))
+module _ (s : List ℕ) (p : ℕ) (bytes : Bytes s) (h : p + run (drop p s) < length s) where
+  whole : {A : Type 0} (w : Width A) → read w s p ≡ reading w (take (run (drop p s) + 1) (drop p s))
+  whole w = read-from w s p (omega arith) ∙ alone w (drop p s) (λ i. rw (getD-drop p s i 0) (bytes (p + i))) (omega (arith, length-drop p s))
 
--- a reader's answer r, whose meaning is the reading at the group's place, is q: a number's count is the group's, and q is what the group says
-module _ {A R : Type 0} (meaning : R → Answer (A × ℕ)) (w : Width A) (f : A → Val) {s : List ℕ} {p n : ℕ} (k : GroupAt n s p)
-    {r q : R} (e : meaning r ≡ read w s p) (g : r ≡ q) where
-  answered : meaning q ≡ read w s p
-  answered = ap meaning (sym g) ∙ e
+  pub read-alone : (rule : Rule) → read-by rule s p ≡ readBy rule (take (run (drop p s) + 1) (drop p s))
+  read-alone Unsigned = ap (valued unsigned) (whole u64)
+  read-alone Signed = ap (valued signed) (whole i64)
 
-  pub says-count : {v : A} {m : ℕ} → meaning q ≡ gives (v, m) → m ≡ n
-  says-count d = reading-count w (drop p s) (sym (read-from w s p (omega (arith, k .ends))) ∙ sym answered ∙ d) ∙ k .many
+module _ {a : Answer Val} {n q : ℕ} (p : ℕ) (past : q ≡ p + n) where
+  pub said-number : {v : Val} → a ≡ gives v → number v n q ≡ says a n p
+  said-number e = rw (e, past)
 
-  pub says-number : Bytes s → {v : A} {m next : ℕ} → meaning q ≡ gives (v, m) → next ≡ p + m
-      → number (f v) m next ≡ says f (reading w (take (run (drop p s) + 1) (drop p s))) (length (take (run (drop p s) + 1) (drop p s))) p
-  says-number bytes d h = rw (← (whole w k bytes), ← answered, d, h)
-
-  pub says-gap : Bytes s → {why next : ℕ} → meaning q ≡ refused why → next ≡ p + n
-      → gap why n next ≡ says f (reading w (take (run (drop p s) + 1) (drop p s))) (length (take (run (drop p s) + 1) (drop p s))) p
-  says-gap bytes d h = rw (← (whole w k bytes), ← answered, d, h, size w k)
+  pub said-gap : {k : ℕ} → a ≡ refused k → gap k n q ≡ says a n p
+  said-gap e = rw (e, past)

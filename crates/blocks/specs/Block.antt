@@ -3,7 +3,7 @@
 --   block-limit       the most bytes of a block
 --   isStart s p       p is 0, or stands just past a byte below 128
 --   Val               a number by the rule that it was read by
---   readBy rule g     the bytes of a group, read by the rule
+--   readBy rule g     the reading of a group by the rule: its number, or the reason why it has none
 --   Stepped           what a step says, in document 01's numbers and values; its last number is the place of the cursor handed back
 --   stepping rule s p the rows of a step in their order
 --   settingDown s p   the least start at or after p, or 8
@@ -38,14 +38,22 @@ pub data Stepped : Type 0 where
   finished : ℕ → Stepped
   refuses : ℕ → Stepped
 
--- a number, or else a gap over the whole group
-abbrev pub says : {A : Type 0} → (A → Val) → Answer (A × ℕ) → ℕ → ℕ → Stepped
-says f (gives v) n p = number (f (v .0)) (v .1) (p + v .1)
-says f (refused k) n p = gap k n (p + n)
+-- the reading of a group by a rule: its number, or the reason why it has none
+abbrev pub valued : {A : Type 0} → (A → Val) → Answer (A × ℕ) → Answer Val
+valued f (gives v) = gives (f (v .0))
+valued f (refused k) = refused k
+
+abbrev pub readBy : Rule → List ℕ → Answer Val
+readBy Unsigned g = valued unsigned (reading u64 g)
+readBy Signed g = valued signed (reading i64 g)
+
+-- what a step says of a group of n bytes at the place p: its number, or else a gap
+abbrev pub says : Answer Val → ℕ → ℕ → Stepped
+says (gives v) n p = number v n (p + n)
+says (refused k) n p = gap k n (p + n)
 
 abbrev pub saysBy : Rule → List ℕ → ℕ → Stepped
-saysBy Unsigned g p = says unsigned (reading u64 g) (length g) p
-saysBy Signed g p = says signed (reading i64 g) (length g) p
+saysBy rule g p = says (readBy rule g) (length g) p
 
 unfoldable pub stepping : Rule → List ℕ → ℕ → Stepped
 stepping rule s p =

@@ -1,20 +1,29 @@
--- What the functions inside the crate ask and promise.
+-- What the functions inside the crate promise.
 --
---   GroupAt n s p     a group of n bytes stands at the place p of s
---   SaysBy rule s p r   r says what the group there says by the rule
-use Prim.Native.Nat.{ℕ, _+_, _≤_}
+--   meaningReading    what a group's reading says
+--   ReadsBy rule s p r   r is what a reader of numbers by the rule says at the place p of s
+use Prim.Native.Nat.{ℕ}
 use mathlib.Core.List.{List}
 use mathlib.Core.Path.{_≡_}
-use lib.ListN.{length, take, drop}
-use Rattle.groups.specs.Group.{run}
-use Rattle.blocks.specs.Block.{saysBy}
-use Rattle.blocks.specs.Promise.{meaning}
+use Rattle.words.specs.Answer.{Answer, gives, refused}
+use Rattle.words.specs.Refusal.{numberOf}
+use Rattle.groups.specs.Width.{read}
+use Rattle.uleb128_writing.specs.Unsigned.{u64}
+use Rattle.sleb128.specs.Signed.{i64}
+use Rattle.blocks.specs.Block.{Val, unsigned, signed, valued}
+use Rattle.blocks.specs.Promise.{valueOf}
+use Rattle.blocks.specs.declared.Reading.{Reading}
+use Rattle.blocks.specs.declared.Reading.the-variants as G
 use Rattle.blocks.specs.declared.Rule.{Rule}
-use Rattle.blocks.specs.declared.Step.{Step}
+use Rattle.blocks.specs.declared.Rule.the-variants.{Unsigned, Signed}
 
-pub record GroupAt (n : ℕ) (s : List ℕ) (p : ℕ) : Type 0 where
-  pub many : run (drop p s) + 1 ≡ n
-  pub ends : p + n ≤ length s
+abbrev pub meaningReading : Reading → Answer Val
+meaningReading (G.Number v) = gives (valueOf v)
+meaningReading (G.Fault why) = refused (numberOf why)
 
-pub record SaysBy (rule : Rule) (s : List ℕ) (p : ℕ) (r : Step) : Type 0 where
-  pub is : meaning r ≡ saysBy rule (take (run (drop p s) + 1) (drop p s)) p
+abbrev pub read-by : Rule → List ℕ → ℕ → Answer Val
+read-by Unsigned s p = valued unsigned (read u64 s p)
+read-by Signed s p = valued signed (read i64 s p)
+
+pub record ReadsBy (rule : Rule) (s : List ℕ) (p : ℕ) (r : Reading) : Type 0 where
+  pub is : meaningReading r ≡ read-by rule s p

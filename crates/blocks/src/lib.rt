@@ -10,9 +10,9 @@ ghost use mathlib.Core.Path.{_≡_};
 ghost use Prim.Native.Nat.{_+_, _^_, _<_, _≤_};
 ghost use lib.ListN.{length, drop};
 ghost use Rattle.groups.specs.Group.{run};
-ghost use Rattle.blocks.specs.Block.{isStart};
-ghost use Rattle.blocks.specs.Inner.{GroupAt, SaysBy};
-ghost use Rattle.blocks.specs.Promise.{Steps, SetsDown};
+ghost use Rattle.blocks.specs.Block.{isStart, says};
+ghost use Rattle.blocks.specs.Inner.{meaningReading, ReadsBy};
+ghost use Rattle.blocks.specs.Promise.{meaning, Steps, SetsDown};
 
 // The most bytes of a block.
 pub const BLOCK_LIMIT: usize = 4096;
@@ -41,6 +41,12 @@ pub enum Step {
     Tail(Count, Cursor),
     Finished(Cursor),
     Refused(Refusal),
+}
+
+// A group's reading: its number, or the reason why it has none.
+enum Reading {
+    Number(Value),
+    Fault(Refusal),
 }
 
 pub enum SetDown {
@@ -88,31 +94,43 @@ fn past(at: usize, count: usize) -> Cursor
     Cursor { place: Place(next) }
 }
 
-// What the group of count bytes at the place says, read unsigned: a number, or else a gap over the whole group.
-fn unsigned_group(block: &[u8], at: usize, count: usize) -> Step
-    requires { ⌜ GroupAt count (now block) at ⌝ }
-    ensures { λ r. ⌜ SaysBy Rule.Unsigned (now (block .entry)) at r ⌝ }
+// What a reader of numbers says at the place, by the rule.
+fn unsigned_reading(block: &[u8], at: usize) -> Reading
+    ensures { λ r. ⌜ ReadsBy Rule.Unsigned (now (block .entry)) at r ⌝ }
 {
     match read_u64(block, Place(at)) {
-        ReadU64::Number(v, n) => {
-            let taken = n.0;
-            Step::Number(Value::Unsigned(v), n, past(at, taken))
-        }
-        ReadU64::Refused(refusal) => Step::Gap(refusal, Count(count), past(at, count)),
+        ReadU64::Number(v, _) => Reading::Number(Value::Unsigned(v)),
+        ReadU64::Refused(refusal) => Reading::Fault(refusal),
     }
 }
 
-// The same, read signed.
-fn signed_group(block: &[u8], at: usize, count: usize) -> Step
-    requires { ⌜ GroupAt count (now block) at ⌝ }
-    ensures { λ r. ⌜ SaysBy Rule.Signed (now (block .entry)) at r ⌝ }
+fn signed_reading(block: &[u8], at: usize) -> Reading
+    ensures { λ r. ⌜ ReadsBy Rule.Signed (now (block .entry)) at r ⌝ }
 {
     match read_i64(block, Place(at)) {
-        ReadI64::Number(v, n) => {
-            let taken = n.0;
-            Step::Number(Value::Signed(v), n, past(at, taken))
-        }
-        ReadI64::Refused(refusal) => Step::Gap(refusal, Count(count), past(at, count)),
+        ReadI64::Number(v, _) => Reading::Number(Value::Signed(v)),
+        ReadI64::Refused(refusal) => Reading::Fault(refusal),
+    }
+}
+
+fn read_by(rule: Rule, block: &[u8], at: usize) -> Reading
+    ensures { λ r. ⌜ ReadsBy rule (now (block .entry)) at r ⌝ }
+{
+    match rule {
+        Rule::Unsigned => unsigned_reading(block, at),
+        Rule::Signed => signed_reading(block, at),
+    }
+}
+
+// What a step says of a group of count bytes with this reading: a number, or else a gap, over the whole group.
+fn group(reading: Reading, at: usize, count: usize) -> Step
+    requires { ⌜ at + count < 2 ^ 64 ⌝ }
+    ensures { λ r. ⌜ meaning r ≡ says (meaningReading reading) count at ⌝ }
+{
+    let next = past(at, count);
+    match reading {
+        Reading::Number(value) => Step::Number(value, Count(count), next),
+        Reading::Fault(refusal) => Step::Gap(refusal, Count(count), next),
     }
 }
 
@@ -142,10 +160,8 @@ impl Cursor {
             return Step::Tail(Count(high), self);
         }
         let count = high + 1;
-        match rule {
-            Rule::Unsigned => unsigned_group(block, at, count),
-            Rule::Signed => signed_group(block, at, count),
-        }
+        let reading = read_by(rule, block, at);
+        group(reading, at, count)
     }
 }
 

@@ -18,7 +18,7 @@ use Rattle.words.specs.declared.Refusal.the-variants.{End, Overflow, NotShortes
 use Rattle.groups.specs.Group.{run}
 use Rattle.groups.proofs.Exact.{group-length}
 use Rattle.groups.proofs.Run.{at-run, run-within}
-use Rattle.blocks.specs.Block.{Val}
+use Rattle.blocks.specs.Block.{Val, readBy}
 use Rattle.blocks.specs.Promise.{valueOf}
 use Rattle.blocks.specs.Cut.{cut}
 use Rattle.blocks.specs.declared.Rule.{Rule}
@@ -26,7 +26,7 @@ use Rattle.blocks.specs.declared.Step.{Step}
 use Rattle.blocks.specs.declared.Step.the-variants as S
 use Rattle.blocks.proofs.Cuts.{cut-group, cut-tail}
 use Rattle.claims.specs.Listed.{placed, listed}
-use Rattle.claims.specs.Blocks.{Start, GroupAt, TailAt, readBy, GroupReads, StepRefused, StepRow}
+use Rattle.claims.specs.Blocks.{Start, GroupAt, TailAt, GroupReads, StepRefused, StepRow}
 use Rattle.claims.specs.Readings.{Block, told, Reads, at-end, at-tail, at-number, at-gap, ReaderFrom}
 use Rattle.claims.proofs.Rows.{high-run}
 use Rattle.claims.proofs.Stepped.{run-of, group-is, group-ends, row-steps, row-found, step-rows}

@@ -17,14 +17,14 @@ use Rattle.words.specs.declared.Count.{Count}
 use Rattle.words.specs.declared.Refusal.{Refusal}
 use Rattle.words.specs.declared.Refusal.the-variants.{End, Overflow, NotShortest, Place, NoRoom, NotAStart, TooLong, NoStart}
 use Rattle.words.proofs.Cases.{by-order, by-test, clash}
-use Rattle.groups.specs.Group.{Bytes, Group, run}
+use Rattle.groups.specs.Group.{Bytes, run}
 use Rattle.groups.specs.Width.{Width, reading}
 use Rattle.groups.proofs.Run.{run-within}
 use Rattle.groups.proofs.Exact.{group-length}
-use Rattle.groups.proofs.Standing.{front-group, run-behind, reading-count}
+use Rattle.groups.proofs.Standing.{front-group, run-behind}
 use Rattle.uleb128_writing.specs.Unsigned.{u64}
 use Rattle.sleb128.specs.Signed.{i64}
-use Rattle.blocks.specs.Block.{block-limit, isStart, Val, unsigned, signed, number, gap, says, saysBy, stepping}
+use Rattle.blocks.specs.Block.{block-limit, isStart, Val, unsigned, signed, Stepped, number, gap, valued, readBy, says, saysBy, stepping}
 use Rattle.blocks.specs.Promise.{valueOf, Steps}
 use Rattle.blocks.specs.declared.Cursor.{Cursor}
 use Rattle.blocks.specs.declared.Rule.{Rule}
@@ -33,10 +33,10 @@ use Rattle.blocks.specs.declared.Step.{Step}
 use Rattle.blocks.specs.declared.Step.the-variants as S
 use Rattle.blocks.specs.declared.Value.the-variants as N
 use Rattle.blocks.proofs.Rows.{step-too-long, step-past, step-finished, step-not-a-start, step-tail, group-says}
-use Rattle.claims.specs.Blocks.{Start, GroupAt, TailAt, valued, readBy, GroupReads, StepRefused, StepRow}
+use Rattle.claims.specs.Blocks.{Start, GroupAt, TailAt, GroupReads, StepRefused, StepRow}
 use Rattle.claims.proofs.Rows.{high-run, run-high}
 use Rattle.claims.proofs.Told.{reading-told}
-use Rattle.claims.proofs.Same.{apart, same-step, by-rows}
+use Rattle.claims.proofs.Same.{same-step, by-rows}
 
 -- the test for a start
 start-true : {s : List ℕ} {p : ℕ} → Start s p → isStart s p ≡ true
@@ -74,29 +74,24 @@ module _ {s : List ℕ} {p : ℕ} {g : List ℕ} (k : GroupAt s p g) where
         ap length split ∙ length-append g (drop (length g) (drop p s)),
       )
 
--- what a group's reading makes a step say
-module _ {A : Type 0} (f : A → Val) (n p : ℕ) where
-  says-number : (w : Val) (a : Answer (A × ℕ)) → ((v : A) (m : ℕ) → a ≡ gives (v, m) → m ≡ n) → valued f a ≡ gives w → number w n (p + n) ≡ says f a n p
-  says-number w (gives v) h e = let m : v .1 ≡ n = h (v .0) (v .1) refl in let q : f (v .0) ≡ w = cc in rw (q, m)
-  says-number w (refused k) h e = apart (sym e)
+-- a number or a gap over n bytes, and the cursor at q
+abbrev saysTo : Answer Val → ℕ → ℕ → Stepped
+saysTo (gives v) n q = number v n q
+saysTo (refused k) n q = gap k n q
 
-  says-gap : (k : ℕ) (a : Answer (A × ℕ)) → valued f a ≡ refused k → gap k n (p + n) ≡ says f a n p
-  says-gap k (gives v) e = apart e
-  says-gap k (refused j) e = let q : j ≡ k = cc in rw q
-
-number-said : (rule : Rule) (g : List ℕ) (p : ℕ) (w : Val) → Group g → readBy rule g ≡ gives w → number w (length g) (p + length g) ≡ saysBy rule g p
-number-said Unsigned g p w k = says-number unsigned (length g) p w (reading u64 g) (λ v m e. omega (arith, reading-count u64 g e, group-length k))
-number-said Signed g p w k = says-number signed (length g) p w (reading i64 g) (λ v m e. omega (arith, reading-count i64 g e, group-length k))
-
-gap-said : (rule : Rule) (g : List ℕ) (p k : ℕ) → readBy rule g ≡ refused k → gap k (length g) (p + length g) ≡ saysBy rule g p
-gap-said Unsigned g p k = says-gap unsigned (length g) p k (reading u64 g)
-gap-said Signed g p k = says-gap signed (length g) p k (reading i64 g)
+to-says : (a : Answer Val) (n p : ℕ) → saysTo a n (p + n) ≡ says a n p
+to-says (gives v) n p = refl
+to-says (refused k) n p = refl
 
 module _ (rule : Rule) (s : List ℕ) (p : ℕ) where
   pub says-group : (g : List ℕ) → length s ≤ block-limit → GroupAt s p g → saysBy rule g p ≡ stepping rule s p
   says-group g f k =
       sym (group-says rule s p f (omega (arith, group-ends k)) (start-true (k .start)) (group-ends k)
       ∙ ap (λ (t : List ℕ). saysBy rule t p) (group-is k))
+
+  -- what a group's reading makes a step say
+  said : {a : Answer Val} {n q : ℕ} (k : GroupReads rule s p a n q) → saysTo a n q ≡ saysBy rule (k .group) p
+  said k = rw (k .count, k .next, ← (k .reads)) (to-says (readBy rule (k .group)) (length (k .group)) p)
 
   -- where its row holds, an answer is a step's
   refused-row : (why : Refusal) → StepRefused why s p → Steps rule s p (S.Refused why)
@@ -121,10 +116,10 @@ module _ (rule : Rule) (s : List ℕ) (p : ℕ) where
       step-tail rule s p (h .0) (k .some) (start-true (k .start)) n c count (h .3) (omega (arith, h .2))
   row-steps (S.Number v n c) h =
       let k : GroupReads rule s p (gives (valueOf v)) (n .0) (c .place .0) = h .1 in
-      record { is = rw (k .count, k .next) (number-said rule (k .group) p (valueOf v) (k .stands .is-group) (k .reads) ∙ says-group (k .group) (h .0) (k .stands)) }
+      record { is = said k ∙ says-group (k .group) (h .0) (k .stands) }
   row-steps (S.Gap why n c) h =
       let k : GroupReads rule s p (refused (numberOf why)) (n .0) (c .place .0) = h .1 in
-      record { is = rw (k .count, k .next) (gap-said rule (k .group) p (numberOf why) (k .reads) ∙ says-group (k .group) (h .0) (k .stands)) }
+      record { is = said k ∙ says-group (k .group) (h .0) (k .stands) }
 
 -- a group's reading is one that an answer can tell
 heard : {A X : Type 0} (f : A → Val) (w : Width A) (g : List ℕ) → ((v : A) → valued f (reading w g) ≡ gives (f v) → X)

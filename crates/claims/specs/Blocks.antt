@@ -3,7 +3,6 @@
 --   Start s p       p is place 0, or just past a byte below 128, up to and including the length of the block
 --   GroupAt s p g   the group g begins at the start p
 --   TailAt s p      a tail begins at the start p
---   readBy          the reading of a group by a rule
 --   GroupReads      a group at a place, its reading, its count of bytes and the place past it
 --   StepRow         the row of each answer of a step; StepRefused: of each refusal
 --   SetDownRow      the row of each answer of a set-down; SetDownRefused: of each refusal
@@ -20,13 +19,9 @@ use Rattle.words.specs.Refusal.{numberOf}
 use Rattle.words.specs.declared.Refusal.{Refusal}
 use Rattle.words.specs.declared.Refusal.the-variants.{End, Overflow, NotShortest, Place, NoRoom, NotAStart, TooLong, NoStart}
 use Rattle.groups.specs.Group.{High, Group}
-use Rattle.groups.specs.Width.{reading}
-use Rattle.uleb128_writing.specs.Unsigned.{u64}
-use Rattle.sleb128.specs.Signed.{i64}
-use Rattle.blocks.specs.Block.{block-limit, Val, unsigned, signed}
+use Rattle.blocks.specs.Block.{block-limit, Val, readBy}
 use Rattle.blocks.specs.Promise.{valueOf}
 use Rattle.blocks.specs.declared.Rule.{Rule}
-use Rattle.blocks.specs.declared.Rule.the-variants.{Unsigned, Signed}
 use Rattle.blocks.specs.declared.Step.{Step}
 use Rattle.blocks.specs.declared.Step.the-variants as S
 use Rattle.blocks.specs.declared.SetDown.{SetDown}
@@ -47,15 +42,6 @@ pub record TailAt (s : List ℕ) (p : ℕ) : Type 0 where
   pub start : Start s p
   pub some : p < length s
   pub high : High (drop p s)
-
--- the reading of a group by a rule: its number, or the reason why it has none
-abbrev pub valued : {A : Type 0} → (A → Val) → Answer (A × ℕ) → Answer Val
-valued f (gives v) = gives (f (v .0))
-valued f (refused k) = refused k
-
-abbrev pub readBy : Rule → List ℕ → Answer Val
-readBy Unsigned g = valued unsigned (reading u64 g)
-readBy Signed g = valued signed (reading i64 g)
 
 -- a group of n bytes stands at p, its reading is a, and q is just past it
 pub record GroupReads (rule : Rule) (s : List ℕ) (p : ℕ) (a : Answer Val) (n q : ℕ) : Type 0 where

@@ -18,14 +18,14 @@ use Rattle.words.specs.declared.Count.{Count}
 use Rattle.words.specs.declared.Refusal.{Refusal}
 use Rattle.words.specs.declared.Refusal.the-variants.{NoStart}
 use Rattle.groups.specs.Group.{Bytes}
-use Rattle.blocks.specs.Block.{block-limit, Val}
+use Rattle.blocks.specs.Block.{block-limit, Val, readBy}
 use Rattle.blocks.specs.Promise.{valueOf, Steps, SetsDown}
 use Rattle.blocks.specs.declared.Cursor.{Cursor}
 use Rattle.blocks.specs.declared.Rule.{Rule}
 use Rattle.blocks.specs.declared.Step.the-variants as S
 use Rattle.blocks.specs.declared.SetDown.the-variants as D
 use Rattle.blocks.specs.declared.Value.{Value}
-use Rattle.claims.specs.Blocks.{Start, readBy}
+use Rattle.claims.specs.Blocks.{Start}
 use Rattle.claims.specs.Listed.{listed, from, less}
 
 pub record Block (s : List ℕ) : Type 0 where

@@ -19,16 +19,15 @@ use Rattle.words.proofs.Cases.{by-order}
 use Rattle.groups.specs.Group.{run}
 use Rattle.groups.specs.Width.{reading}
 use Rattle.groups.proofs.Run.{run-within, at-run}
-use Rattle.groups.proofs.Standing.{reading-count}
 use Rattle.texts.specs.Texts.{ascii}
 use Rattle.uleb128_writing.specs.Unsigned.{u64}
-use Rattle.blocks.specs.Block.{block-limit, isStart, unsigned, says}
+use Rattle.blocks.specs.Block.{block-limit, isStart, unsigned, valued, says}
 use Rattle.blocks.specs.Cut.{cut}
 use Rattle.blocks.specs.declared.Cursor.{Cursor}
 use Rattle.blocks.specs.declared.Rule.the-variants.{Unsigned}
 use Rattle.blocks.proofs.Runs.{front-starts, start-behind}
 use Rattle.blocks.proofs.Rows.{step-finished, step-tail, group-says}
-use Rattle.blocks.proofs.Cuts.{cut-group, cut-tail, run-front}
+use Rattle.blocks.proofs.Cuts.{cut-group, cut-tail}
 use Rattle.listing.specs.Listing.{row, rowOf, groupRow, rows, text, Stage, top, at, ended, Coming, line, over, lineOf, next}
 
 pub record Begins (s : List ℕ) (p : ℕ) : Type 0 where
@@ -56,10 +55,9 @@ pub data Left (s : List ℕ) (g : Stage) : Coming (List ℕ) → Type 0 where
   more : (l : List ℕ) (g′ : Stage) → Fine s g′ → left s g ≡ l ++ left s g′ → rank s g′ < rank s g → Left s g (line l g′)
 
 -- a group's line, whether it is a number or not
-group-line : (a : Answer (ℕ × ℕ)) (n p : ℕ) → ((v : ℕ × ℕ) → a ≡ gives v → v .1 ≡ n)
-    → lineOf p (says unsigned a n p) ≡ line (rowOf p a n) (at (p + n))
-group-line (gives v) n p h = rw (h v refl)
-group-line (refused k) n p h = refl
+group-line : (a : Answer (ℕ × ℕ)) (n p : ℕ) → lineOf p (says (valued unsigned a) n p) ≡ line (rowOf p a n) (at (p + n))
+group-line (gives v) n p = refl
+group-line (refused k) n p = refl
 
 tail-row : (p : ℕ) (t : List ℕ) → 0 < length t → rows p [] t ≡ row p (ascii "tail") (length t)
 unfolding rows
@@ -109,7 +107,7 @@ module _ (s : List ℕ) (p : ℕ) (b : Begins s p) where
           let d : drop (run l + 1) l ≡ drop (p + length group) s = drop-drop (run l + 1) p s ∙ ap (λ (i : ℕ). drop (p + i) s) (sym size) in
           rw (
             group-says Unsigned s p (b .short) here (b .starts) (omega (arith, length-drop p s)),
-            group-line (reading u64 group) (length group) p (λ v e. omega (arith, reading-count u64 group e, run-front l, size)),
+            group-line (reading u64 group) (length group) p,
           ) (more (groupRow p group) (at (p + length group)) behind (rw (cut-group l k, d)) (omega (arith, size, length-drop p s)))
 
 pub coming : (s : List ℕ) (g : Stage) → Fine s g → Left s g (next s g)

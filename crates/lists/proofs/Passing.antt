@@ -6,33 +6,30 @@ use mathlib.Core.Bool.{true}
 use native.Mathlib.Omega.{arith}
 use borrow.Author.Tests.{lt-ltb, le-ltb, lt-leb, eq-eqb, ne-eqb}
 use lib.ListN.{length, getD, take, drop, length-drop}
-use lib.Seq.{getD-drop, drop-drop}
+use lib.Seq.{length-take-le, getD-drop, drop-drop}
 use Rattle.words.specs.Answer.{Answer, gives, refused}
 use Rattle.words.proofs.Cases.{by-order}
 use Rattle.groups.specs.Group.{run}
 use Rattle.groups.specs.Width.{reading}
 use Rattle.groups.proofs.Run.{run-within, at-run}
-use Rattle.groups.proofs.Standing.{reading-count}
 use Rattle.uleb128_writing.specs.Unsigned.{u64}
-use Rattle.blocks.specs.Block.{block-limit, isStart, unsigned, signed, Stepped, number, gap, tail, finished, refuses, says, stepping}
+use Rattle.blocks.specs.Block.{block-limit, isStart, unsigned, signed, Stepped, number, gap, tail, finished, refuses, valued, says, stepping}
 use Rattle.blocks.specs.declared.Rule.the-variants.{Unsigned}
 use Rattle.blocks.proofs.Runs.{start-behind}
 use Rattle.lists.specs.Lists.{joined, numbers}
 use Rattle.lists.specs.Inner.{ahead, StartsBefore, Behind}
 use Rattle.lists.proofs.Fronts.{numbers-group, numbers-tail}
-use Rattle.blocks.proofs.Cuts.{run-front}
 
 -- what a group's step says, taken apart by its case
-said-number : (a : Answer (ℕ × ℕ)) (n p : ℕ) {v m q : ℕ} → number (unsigned v) m q ≡ says unsigned a n p → (a ≡ gives (v, m)) × (q ≡ p + m)
-said-number (gives x) n p {v} {m} {q} e =
-    let f : v ≡ x .0 = cc in let g : m ≡ x .1 = cc in let h : q ≡ p + x .1 = cc in (rw (f, g), rw g h)
+said-number : (a : Answer (ℕ × ℕ)) (n p : ℕ) {v m q : ℕ} → number (unsigned v) m q ≡ says (valued unsigned a) n p → ((i : ℕ) × (a ≡ gives (v, i))) × (q ≡ p + n)
+said-number (gives x) n p {v} {m} {q} e = let f : v ≡ x .0 = cc in let h : q ≡ p + n = cc in ((x .1, rw f), h)
 said-number (refused k) n p e = let z : _≡_ {A = ℕ} 0 1 = cc in absurd (omega arith)
 
-said-gap : (a : Answer (ℕ × ℕ)) (n p : ℕ) {k m q : ℕ} → gap k m q ≡ says unsigned a n p → a ≡ refused k
+said-gap : (a : Answer (ℕ × ℕ)) (n p : ℕ) {k m q : ℕ} → gap k m q ≡ says (valued unsigned a) n p → a ≡ refused k
 said-gap (gives x) n p e = let z : _≡_ {A = ℕ} 0 1 = cc in absurd (omega arith)
 said-gap (refused k) n p {k = j} e = let f : j ≡ k = cc in rw f
 
-said-no-tail : {X : Type 0} (a : Answer (ℕ × ℕ)) (n p : ℕ) {m q : ℕ} → tail m q ≡ says unsigned a n p → X
+said-no-tail : {X : Type 0} (a : Answer (ℕ × ℕ)) (n p : ℕ) {m q : ℕ} → tail m q ≡ says (valued unsigned a) n p → X
 said-no-tail (gives x) n p e = let z : _≡_ {A = ℕ} 0 1 = cc in absurd (omega arith)
 said-no-tail (refused k) n p e = let z : _≡_ {A = ℕ} 0 1 = cc in absurd (omega arith)
 
@@ -49,7 +46,7 @@ Possible (tail m q) = Unit
 Possible (finished q) = ⊥
 Possible (refuses k) = ⊥
 
-said-possible : (a : Answer (ℕ × ℕ)) (n p : ℕ) → Possible (says unsigned a n p)
+said-possible : (a : Answer (ℕ × ℕ)) (n p : ℕ) → Possible (says (valued unsigned a) n p)
 said-possible (gives x) n p = tt
 said-possible (refused k) n p = tt
 
@@ -69,7 +66,7 @@ module _ (s : List ℕ) (p : ℕ) (here : StartsBefore s p) where
         eq-eqb (run l) (length l) e,
       )
 
-  step-group : run l < length l → stepping Unsigned s p ≡ says unsigned (reading u64 (take (run l + 1) l)) (length (take (run l + 1) l)) p
+  step-group : run l < length l → stepping Unsigned s p ≡ says (valued unsigned (reading u64 (take (run l + 1) l))) (length (take (run l + 1) l)) p
   unfolding stepping
   step-group h =
       rw (
@@ -122,14 +119,11 @@ module _ (s : List ℕ) (p : ℕ) (here : StartsBefore s p) where
           left = numbers-group l h ∙ rw (e, drop-drop (run l + 1) p s) (joined-ahead v m (numbers (drop (p + (run l + 1)) s)));
         }
 
-    group-count : {v m : ℕ} → reading u64 (take (run l + 1) l) ≡ gives (v, m) → m ≡ run l + 1
-    group-count e = reading-count u64 (take (run l + 1) l) e ∙ rw (run-front l)
-
     number-next : {v m q : ℕ} → number (unsigned v) m q ≡ stepping Unsigned s p → Behind s p v q
     number-next {v} {m} {q} e =
         let d = said-number (reading u64 (take (run l + 1) l)) (length (take (run l + 1) l)) p (e ∙ step-group h) in
-        let f : q ≡ p + (run l + 1) = d .1 ∙ ap (_+_ p) (group-count (d .0)) in
-        rw f (behind-group (d .0))
+        let f : q ≡ p + (run l + 1) = d .1 ∙ ap (_+_ p) (length-take-le (run l + 1) l (omega arith)) in
+        rw f (behind-group (d .0 .1))
 
   pub pass-number : {v m q : ℕ} → number (unsigned v) m q ≡ stepping Unsigned s p → Behind s p v q
   pass-number {v} {m} {q} e =

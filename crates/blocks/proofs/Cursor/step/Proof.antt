@@ -1,11 +1,13 @@
 -- `blocks::Cursor::step` meets its promise: a law of `Rows` for each answer.
-use mathlib.Core.Path.{_≡_, refl, sym, _∙_}
+use Prim.Native.Nat.{ℕ, _+_}
+use mathlib.Core.Path.{_≡_, refl, ap, sym, _∙_}
 use mathlib.Core.Bool.{true}
 use native.Mathlib.Omega.{arith}
 use borrow.Author.Tests.{not-true, not-false}
 use denote.Ref.{now}
 use Rattle.blocks.specs.Block.{isStart}
 use Rattle.blocks.proofs.Runs.{within}
+use Rattle.blocks.proofs.Says.{read-alone}
 use Rattle.blocks.proofs.Rows.{step-too-long, step-past, step-finished, step-not-a-start, step-tail, step-group}
 use borrow.Author.Needs.{needs}
 use Rattle.blocks.proofs.Cursor.step.Statement.{statement}
@@ -46,29 +48,20 @@ returns-5 c =
 add-count : tie.Need-add-count
 add-count c = search needs
 
-enum-told : tie.Need-enum-told
-enum-told c = search needs
+read-by-requires : tie.Need-read-by-requires
+read-by-requires c κs = search needs
 
-unsigned-group-requires : tie.Need-unsigned-group-requires
-unsigned-group-requires c κs = search needs
-
-enum-told-2 : tie.Need-enum-told-2
-enum-told-2 c = search needs
-
-signed-group-requires : tie.Need-signed-group-requires
-signed-group-requires c κs = search needs
+group-requires : tie.Need-group-requires
+group-requires c κs = search needs
 
 returns-6 : tie.Need-returns-6
 returns-6 c =
-    rw (c .before .enum-told .given .1)
-    (step-group _ _ _ (search needs) (search needs) (starts (c .before .before .before .before .before))
-    (rw (c .before .before .before .before .high-run .ensures) at (c .before .before .before .if5 .left)) (c .unsigned-group .ensures))
-
-returns-7 : tie.Need-returns-7
-returns-7 c =
-    rw (c .before .enum-told2 .given .1)
-    (step-group _ _ _ (search needs) (search needs) (starts (c .before .before .before .before .before))
-    (rw (c .before .before .before .before .high-run .ensures) at (c .before .before .before .if5 .left)) (c .signed-group .ensures))
+    let scanned = c .before .before .before in
+    let asked = scanned .before .before .before .before .before .before .before in
+    let inside = rw (scanned .high-run .ensures) at (c .before .before .if5 .left) in
+    let alone = read-alone _ _ (λ i. asked .shared-slice-known .given i .fits) inside (asked .before .args .rule) in
+    step-group _ _ _ (search needs) (search needs) (starts (scanned .before)) inside (ap (λ (n : ℕ). n + 1) (scanned .high-run .ensures))
+    (c .before .read-by .ensures .is ∙ alone) (c .group .ensures)
 
 pub step-spec : {M : Type 1} → statement M
 step-spec =
@@ -83,9 +76,6 @@ step-spec =
     add-last
     returns-5
     add-count
-    enum-told
-    unsigned-group-requires
-    enum-told-2
-    signed-group-requires
-    returns-6
-    returns-7)
+    read-by-requires
+    group-requires
+    returns-6)

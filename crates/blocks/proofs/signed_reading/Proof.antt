@@ -1,0 +1,27 @@
+-- `blocks::signed_reading` keeps what it promises inside the crate.
+use Rattle.sleb128.specs.Promise.{meaning}
+use Rattle.sleb128.proofs.Bits.{back}
+use Rattle.blocks.specs.Block.{signed}
+use Rattle.blocks.proofs.Says.{told}
+use borrow.Author.Needs.{needs}
+use Rattle.blocks.proofs.signed_reading.Statement.{statement}
+use Rattle.blocks.proofs.signed_reading.Tie as tie
+
+read-i64-requires : tie.Need-read-i64-requires
+read-i64-requires c κs = search needs
+
+enum-known-v : tie.Need-enum-known-v
+enum-known-v c = search needs
+
+enum-known-refusal : tie.Need-enum-known-refusal
+enum-known-refusal c = search needs
+
+returns : tie.Need-returns
+returns c = record { is = rw (back _ (c .known-told .given .0 .1)) (told meaning signed (c .before .before .before .read-i64 .ensures .is) (c .before .v .given .1)) }
+
+returns-2 : tie.Need-returns-2
+returns-2 c = record { is = told meaning signed (c .before .before .before .read-i64 .ensures .is) (c .before .refusal .given .1) }
+
+pub signed-reading-spec : {M : Type 1} → statement M
+signed-reading-spec =
+    tie.close (tie.spec read-i64-requires enum-known-v enum-known-refusal returns returns-2)

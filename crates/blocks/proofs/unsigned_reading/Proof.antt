@@ -1,0 +1,26 @@
+-- `blocks::unsigned_reading` keeps what it promises inside the crate.
+use Rattle.uleb128_reading.specs.Promise.{meaning64}
+use Rattle.blocks.specs.Block.{unsigned}
+use Rattle.blocks.proofs.Says.{told}
+use borrow.Author.Needs.{needs}
+use Rattle.blocks.proofs.unsigned_reading.Statement.{statement}
+use Rattle.blocks.proofs.unsigned_reading.Tie as tie
+
+read-u64-requires : tie.Need-read-u64-requires
+read-u64-requires c κs = search needs
+
+enum-known-v : tie.Need-enum-known-v
+enum-known-v c = search needs
+
+enum-known-refusal : tie.Need-enum-known-refusal
+enum-known-refusal c = search needs
+
+returns : tie.Need-returns
+returns c = record { is = told meaning64 unsigned (c .before .before .before .read-u64 .ensures .is) (c .before .v .given .1) }
+
+returns-2 : tie.Need-returns-2
+returns-2 c = record { is = told meaning64 unsigned (c .before .before .before .read-u64 .ensures .is) (c .before .refusal .given .1) }
+
+pub unsigned-reading-spec : {M : Type 1} → statement M
+unsigned-reading-spec =
+    tie.close (tie.spec read-u64-requires enum-known-v enum-known-refusal returns returns-2)
