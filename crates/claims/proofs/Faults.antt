@@ -39,10 +39,10 @@ data Sorted (g : List ℕ) : Type 0 where
 sorted : (g : List ℕ) → Group g → Sorted g
 sorted g k =
     ⊎-elim (λ (row : (why : Refusal) × Row u64 why g 0).
-    let e = sym (from-front u64 g) ∙ row-refused u64 (laws loop64 .sound) (row .0) g 0 (row .1) in
+    let e = sym (from-front u64 g) ∙ row-refused u64 (laws loop64 .reading .sound) (row .0) g 0 (row .1) in
     gap (row .0) e (read-group loop64 g k .gap (row .0) .0 e))
     (λ (b : (v : ℕ) × (n : ℕ) × Begins form (OfWidth loop64) g 0 v n).
-    let e = sym (from-front u64 g) ∙ laws loop64 .begun g 0 (b .0) (b .1) (b .2) in
+    let e = sym (from-front u64 g) ∙ laws loop64 .reading .begun g 0 (b .0) (b .1) (b .2) in
     let n : b .1 ≡ length g = reading-count u64 g e ∙ omega (arith, group-length k) in
     let f = read-group loop64 g k .number (b .0) .0 (rw n at e) in
     number (b .0) (f .0) (f .1))

@@ -13,7 +13,7 @@ use Rattle.words.specs.declared.Count.{Count}
 use Rattle.words.specs.declared.Refusal.{Refusal}
 use Rattle.groups.specs.Begins.{Begins}
 use Rattle.groups.specs.Group.{Bytes}
-use Rattle.groups.specs.Width.{read}
+use Rattle.groups.specs.Width.{Width, read}
 use Rattle.groups.proofs.Walks.{Sound}
 use Rattle.groups.proofs.Standing.{Stands, standing}
 use Rattle.uleb128_reading.specs.Promise.{meaning64, meaning32}
@@ -28,16 +28,21 @@ use Rattle.claims.specs.Claims.{Accepts, Refuses, Excludes, Exhausts}
 use Rattle.claims.proofs.Same.{same64, same32, same-i64, apart, refused-same}
 use Rattle.claims.proofs.Rows.{row-refused, decide}
 
+-- a width's readings are the forms of its numbers
+pub record Reading {A : Type 0} (w : Width A) (form : A → List ℕ) (OfWidth : A → Type 0) : Type 0 where
+  pub sound : Sound w
+  pub begins : (s : List ℕ) (at : ℕ) (v : A) (n : ℕ) → Bytes s → read w s at ≡ gives (v, n) → Begins form OfWidth s at v n
+  pub begun : (s : List ℕ) (at : ℕ) (v : A) (n : ℕ) → Begins form OfWidth s at v n → read w s at ≡ gives (v, n)
+
+-- what an answer means, and that its promise is its meaning
 pub record Laws (k : Reader) : Type 0 where
+  pub reading : Reading (width k) (form k) (OfWidth k)
   pub means : Reply k → Answer (Value k × ℕ)
   pub number-means : (v : Value k) (n : Count) → means (number k v n) ≡ gives (v, n .0)
   pub refuse-means : (why : Refusal) → means (refuse k why) ≡ refused (numberOf why)
   pub same : (r r′ : Reply k) → means r ≡ means r′ → r ≡ r′
   pub says : (s : List ℕ) (at : ℕ) (r : Reply k) → Promised k s at r → means r ≡ read (width k) s at
   pub promised : (s : List ℕ) (at : ℕ) (r : Reply k) → means r ≡ read (width k) s at → Promised k s at r
-  pub sound : Sound (width k)
-  pub begins : (s : List ℕ) (at : ℕ) (v : Value k) (n : ℕ) → Bytes s → read (width k) s at ≡ gives (v, n) → Begins (form k) (OfWidth k) s at v n
-  pub begun : (s : List ℕ) (at : ℕ) (v : Value k) (n : ℕ) → Begins (form k) (OfWidth k) s at v n → read (width k) s at ≡ gives (v, n)
 
 -- the numbers of the signed width, by their magnitude
 pub within : (v : ℤ) (h : ℕ) → mag v < h → (negℤ (pos h) ≤ℤ v) × (v <ℤ pos h)
@@ -54,55 +59,32 @@ within-mag (negsuc n) (suc h) p a b = let q : n ≤ h = leb→le n h (a .le) in 
 rewidth : {A : Type 0} {f : A → List ℕ} {P Q : A → Type 0} {s : List ℕ} {at n : ℕ} {v : A} → (P v → Q v) → Begins f P s at v n → Begins f Q s at v n
 rewidth g b = record { here = b .here; of-width = g (b .of-width); rest = b .rest; begins = b .begins; count = b .count }
 
-loop-laws : Laws loop64
-loop-laws = record {
-  means = meaning64;
-  number-means = λ v n. refl;
-  refuse-means = λ why. refl;
-  same = same64;
-  says = λ s at r p. p .is;
-  promised = λ s at r e. record { is = e };
+reading64 : Reading (width loop64) (form loop64) (OfWidth loop64)
+reading64 = record {
   sound = unsigned-widths.sound 10 1 (omega arith) (omega arith);
   begins = λ s at v n. unsigned-exactly.read-begins 10 1 (omega arith) (omega arith) s at;
   begun = λ s at v n. unsigned-exactly.begins-read 10 1 (omega arith) (omega arith) s at;
 }
 
-pub laws : (k : Reader) → Laws k
-unfolding loop-laws
-laws loop64 = loop-laws
-laws recursive64 = record {
-  means = loop-laws .means;
-  number-means = loop-laws .number-means;
-  refuse-means = loop-laws .refuse-means;
-  same = loop-laws .same;
-  says = loop-laws .says;
-  promised = λ s at r e. record { is = e };
-  sound = loop-laws .sound;
-  begins = loop-laws .begins;
-  begun = loop-laws .begun;
-}
-laws unsigned32 = record {
-  means = meaning32;
-  number-means = λ v n. refl;
-  refuse-means = λ why. refl;
-  same = same32;
-  says = λ s at r p. p .is;
-  promised = λ s at r e. record { is = e };
+reading32 : Reading (width unsigned32) (form unsigned32) (OfWidth unsigned32)
+reading32 = record {
   sound = unsigned-widths.sound 5 15 (omega arith) (omega arith);
   begins = λ s at v n. unsigned-exactly.read-begins 5 15 (omega arith) (omega arith) s at;
   begun = λ s at v n. unsigned-exactly.begins-read 5 15 (omega arith) (omega arith) s at;
 }
-laws signed64 = record {
-  means = meaningI64;
-  number-means = λ v n. refl;
-  refuse-means = λ why. refl;
-  same = same-i64;
-  says = λ s at r p. p .is;
-  promised = λ s at r e. record { is = e };
+
+signed-reading : Reading (width signed64) (form signed64) (OfWidth signed64)
+signed-reading = record {
   sound = signed-widths.sound;
   begins = λ s at v n bytes e. rewidth (λ l. within v (2 ^ 63) l) (signed-exactly.read-begins s at bytes e);
   begun = λ s at v n b. signed-exactly.begins-read s at (rewidth (λ l. within-mag v (2 ^ 63) (omega arith) (l .0) (l .1)) b);
 }
+
+pub laws : (k : Reader) → Laws k
+laws loop64 = record { reading = reading64; means = meaning64; number-means = λ v n. refl; refuse-means = λ why. refl; same = same64; says = λ s at r p. p .is; promised = λ s at r e. record { is = e } }
+laws recursive64 = record { reading = reading64; means = meaning64; number-means = λ v n. refl; refuse-means = λ why. refl; same = same64; says = λ s at r p. p .is; promised = λ s at r e. record { is = e } }
+laws unsigned32 = record { reading = reading32; means = meaning32; number-means = λ v n. refl; refuse-means = λ why. refl; same = same32; says = λ s at r p. p .is; promised = λ s at r e. record { is = e } }
+laws signed64 = record { reading = signed-reading; means = meaningI64; number-means = λ v n. refl; refuse-means = λ why. refl; same = same-i64; says = λ s at r p. p .is; promised = λ s at r e. record { is = e } }
 
 -- an answer and what it means
 module _ (k : Reader) (l : Laws k) (s : List ℕ) (at : ℕ) where
@@ -121,33 +103,33 @@ module _ (k : Reader) (l : Laws k) (s : List ℕ) (at : ℕ) where
 -- 1
 pub accepts : (k : Reader) → Laws k → Accepts k
 accepts k l s at r bytes p v n = (
-  λ e. l .begins s at v (n .0) bytes (number-read k l s at v n (subst (Promised k s at) e p)),
-  λ b. read-number k l s at r v n p (l .begun s at v (n .0) b),
+  λ e. l .reading .begins s at v (n .0) bytes (number-read k l s at v n (subst (Promised k s at) e p)),
+  λ b. read-number k l s at r v n p (l .reading .begun s at v (n .0) b),
 )
 
 -- 2
 pub read-row : (k : Reader) → Laws k → (s : List ℕ) (at : ℕ) → Bytes s → (why : Refusal) → read (width k) s at ≡ refused (numberOf why) → Row (width k) why s at
 read-row k l s at bytes why e =
     ⊎-elim (λ (row : (a : Refusal) × Row (width k) a s at).
-    subst (λ (a : Refusal). Row (width k) a s at) (refused-same (row .0) why (sym (row-refused (width k) (l .sound) (row .0) s at (row .1)) ∙ e)) (row .1))
+    subst (λ (a : Refusal). Row (width k) a s at) (refused-same (row .0) why (sym (row-refused (width k) (l .reading .sound) (row .0) s at (row .1)) ∙ e)) (row .1))
     (λ (g : (v : Value k) × (n : ℕ) × Stands (width k) s at v n). apart (sym (standing (width k) s at (g .2)) ∙ e))
-    (decide (width k) (l .sound) s at bytes)
+    (decide (width k) (l .reading .sound) s at bytes)
 
 pub refuses : (k : Reader) → Laws k → Refuses k
 refuses k l s at r bytes p why = (
   λ e. read-row k l s at bytes why (refusal-read k l s at why (subst (Promised k s at) e p)),
-  λ row. read-refusal k l s at r why p (row-refused (width k) (l .sound) why s at row),
+  λ row. read-refusal k l s at r why p (row-refused (width k) (l .reading .sound) why s at row),
 )
 
 pub excludes : (k : Reader) → Laws k → Excludes k
 excludes k l s at = (
-  λ a b p q. refused-same a b (sym (row-refused (width k) (l .sound) a s at p) ∙ row-refused (width k) (l .sound) b s at q),
-  λ a v n p b. apart (sym (l .begun s at v n b) ∙ row-refused (width k) (l .sound) a s at p),
+  λ a b p q. refused-same a b (sym (row-refused (width k) (l .reading .sound) a s at p) ∙ row-refused (width k) (l .reading .sound) b s at q),
+  λ a v n p b. apart (sym (l .reading .begun s at v n b) ∙ row-refused (width k) (l .reading .sound) a s at p),
 )
 
 pub exhausts : (k : Reader) → Laws k → Exhausts k
 exhausts k l s at bytes =
     ⊎-elim (λ row. inl row)
     (λ (g : (v : Value k) × (n : ℕ) × Stands (width k) s at v n).
-    inr (g .0, g .1, l .begins s at (g .0) (g .1) bytes (standing (width k) s at (g .2))))
-    (decide (width k) (l .sound) s at bytes)
+    inr (g .0, g .1, l .reading .begins s at (g .0) (g .1) bytes (standing (width k) s at (g .2))))
+    (decide (width k) (l .reading .sound) s at bytes)

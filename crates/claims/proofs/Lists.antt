@@ -29,7 +29,7 @@ use Rattle.claims.proofs.Laws.{laws}
 
 -- a number's form is read, whatever follows it
 read-form : (v : ℕ) (rest : List ℕ) → v < 2 ^ 64 → reading u64 (form v ++ rest) ≡ gives (v, length (form v))
-read-form v rest h = sym (from-front u64 (form v ++ rest)) ∙ laws loop64 .begun (form v ++ rest) 0 v (length (form v)) (record {
+read-form v rest h = sym (from-front u64 (form v ++ rest)) ∙ laws loop64 .reading .begun (form v ++ rest) 0 v (length (form v)) (record {
   here = omega arith;
   of-width = h;
   rest = rest;

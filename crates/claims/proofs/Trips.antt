@@ -98,7 +98,7 @@ write-read k l v before at n after r of-width p q =
     let e = fits (form k v) before at (W.Bytes n) after (lays k v p) (b .0) .1 in
     let rest = drop (at + length (form k v)) before in
     let t : length (take at before) ≡ at = length-take-le at before (omega (arith, b .0)) in
-    read-number k l after at r v n q (l .begun after at v (n .0) (record {
+    read-number k l after at r v n q (l .reading .begun after at v (n .0) (record {
       here = rw (e, append-assoc, length-append, t) (omega arith);
       of-width = of-width;
       rest = rest;
@@ -108,7 +108,7 @@ write-read k l v before at n after r of-width p q =
 
 module _ (k : Reader) (l : Laws k) (s : List ℕ) (at : ℕ) (v : Value k) (n : Count) (bytes : Bytes s) (p : Promised k s at (number k v n)) where
   stands : Begins (form k) (OfWidth k) s at v (n .0)
-  stands = l .begins s at v (n .0) bytes (number-read k l s at v n p)
+  stands = l .reading .begins s at v (n .0) bytes (number-read k l s at v n p)
 
   taken : at + length (form k v) ≤ length s
   taken =
@@ -139,7 +139,7 @@ read-write k l s at v n r after bytes p q =
 
 pub more-behind : (k : Reader) → Laws k → MoreBehind k
 more-behind k l s more at v n r bytes p q =
-    read-number k l (s ++ more) at r v n q (l .begun (s ++ more) at v (n .0) (behind k l s at v n bytes p more))
+    read-number k l (s ++ more) at r v n q (l .reading .begun (s ++ more) at v (n .0) (behind k l s at v n bytes p more))
 
 pub some-byte : (k : Reader) → Laws k → ((v : Value k) → 0 < length (form k v)) → SomeByte k
 some-byte k l f s at v n bytes p =
