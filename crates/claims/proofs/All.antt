@@ -17,11 +17,10 @@ use Rattle.sleb128.proofs.Forms.{form-spelled}
 use Rattle.claims.specs.Readers.{Reader, loop64, recursive64, unsigned32, signed64, Value, form}
 use Rattle.claims.specs.Try.{Starred}
 use Rattle.claims.specs.Claims.{Claims, Most, zero-of}
-use Rattle.claims.proofs.Laws.{laws, accepts, refuses, excludes, exhausts, within, within-mag}
+use Rattle.claims.proofs.Laws.{laws, accepts, refuses, excludes, exhausts, within, within-mag, one-reply}
 use Rattle.claims.proofs.Trips.{writes, writes-list, write-read, read-write, more-behind, some-byte}
 use Rattle.claims.proofs.Spelled.{two-sentences, twos-complement, signed-form, one-too-many, signed-most}
 use Rattle.claims.proofs.Sources.{parse-same, serialize-same}
-use Rattle.claims.proofs.Same.{same64}
 use Rattle.claims.proofs.Damaged.{front, back, front-read, back-read}
 use Rattle.claims.proofs.Readings.{reader-from}
 use Rattle.claims.proofs.Anywhere.{reader-set-down, front-lost}
@@ -74,7 +73,7 @@ all = record {
   twos-complement = twos-complement;
   signed-form = signed-form;
   one-too-many = λ g r. one-too-many r;
-  read-alike = λ s at r r′ p q. same64 r r′ (p .is ∙ sym (q .is));
+  read-alike = λ s at r r′ p q. one-reply loop64 (laws loop64) s at r r′ p q;
   write-alike = λ v s at r r′ out out′ p q. same-lays p q;
   write-read = λ k. write-read k (laws k);
   read-write = λ k. read-write k (laws k);

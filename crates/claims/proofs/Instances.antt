@@ -7,11 +7,12 @@
 --   old, new          both are blocks, so that damage-front-read and damage-back-read speak of them
 --   set-down, lost    reader-set-down, front-lost: at place 1 of 05 06, and of 05 06 07 whose first byte is lost
 use Prim.Native.Nat.{ℕ, zero, suc, _+_, _<_}
-use mathlib.Core.Path.{refl}
+use mathlib.Core.Path.{_≡_, refl}
 use mathlib.Core.List.{List, [], _∷_, _++_}
 use mathlib.Core.Logic.{inl, inr}
 use native.Mathlib.Omega.{arith}
 use lib.ListN.{length, drop}
+use Rattle.words.specs.Answer.{gives}
 use Rattle.words.specs.declared.Count.{Count}
 use Rattle.words.specs.declared.Written.the-variants as W
 use Rattle.groups.specs.Form.{spell, spellings}
@@ -26,11 +27,12 @@ use Rattle.blocks.specs.declared.Cursor.{Cursor}
 use Rattle.blocks.specs.declared.SetDown.the-variants as D
 use Rattle.lists.specs.Lists.{forms}
 use Rattle.lists.specs.Promise.{WritesList}
-use Rattle.claims.specs.Readers.{Reader, loop64, recursive64, unsigned32, signed64, number, Promised}
+use Rattle.claims.specs.Readers.{Reader, loop64, recursive64, unsigned32, signed64, number, Promised, width}
 use Rattle.claims.specs.Writers.{Laying}
 use Rattle.claims.specs.Blocks.{GroupAt}
 use Rattle.claims.specs.Readings.{Block}
 use Rattle.claims.specs.Claims.{zero-of}
+use Rattle.claims.proofs.Laws.{laws}
 
 abbrev count : ℕ → Count
 count n = record { 0 = n }
@@ -46,12 +48,15 @@ module _ where
   written unsigned32 = record { answer = refl; leaves = refl }
   written signed64 = record { answer = refl; leaves = refl }
 
-  read-back : (k : Reader) → Promised k (0 ∷ []) 0 (number k (zero-of k) (count 1))
+  reads-zero : (k : Reader) → read (width k) (0 ∷ []) 0 ≡ gives (zero-of k, 1)
   unfolding read reading runsOut tooLarge tooMany run digits signed.twos
-  read-back loop64 = record { is = refl }
-  read-back recursive64 = record { is = refl }
-  read-back unsigned32 = record { is = refl }
-  read-back signed64 = record { is = refl }
+  reads-zero loop64 = refl
+  reads-zero recursive64 = refl
+  reads-zero unsigned32 = refl
+  reads-zero signed64 = refl
+
+  read-back : (k : Reader) → Promised k (0 ∷ []) 0 (number k (zero-of k) (count 1))
+  read-back k = laws k .number-says (0 ∷ []) 0 (zero-of k) (count 1) .1 (reads-zero k)
 
   list : WritesList (0 ∷ []) (1 ∷ []) 0 (W.Bytes (count 1)) (0 ∷ [])
   unfolding forms unsigned.form spell spellings writing laid

@@ -1,8 +1,8 @@
 -- What the claims need of each reader, and the claims on readers and writers from it, once for all four.
 use Prim.Native.Nat.{ℕ, zero, suc, _^_, _≤_, _<_}
-use mathlib.Core.Path.{_≡_, refl, sym, _∙_, subst}
+use mathlib.Core.Path.{_≡_, ap, sym, _∙_, subst}
 use mathlib.Core.List.{List}
-use mathlib.Core.Logic.{inl, inr, ⊎-elim}
+use mathlib.Core.Logic.{_↔_, inl, inr, ⊎-elim}
 use native.Mathlib.Omega.{arith}
 use lib.Dec.{leb→le, le→leb, lt→ltb, ltb→lt}
 use lib.IntN.{ℤ, pos, negsuc, negℤ}
@@ -16,17 +16,16 @@ use Rattle.groups.specs.Group.{Bytes}
 use Rattle.groups.specs.Width.{Width, read}
 use Rattle.groups.proofs.Walks.{Sound}
 use Rattle.groups.proofs.Standing.{Stands, standing}
-use Rattle.uleb128_reading.specs.Promise.{meaning64, meaning32}
 use Rattle.uleb128_reading.proofs.Widths as unsigned-widths
 use Rattle.uleb128_reading.proofs.Exactly as unsigned-exactly
-use Rattle.sleb128.specs.Promise.{meaning as meaningI64}
 use Rattle.sleb128.proofs.Widths as signed-widths
 use Rattle.sleb128.proofs.Exactly as signed-exactly
 use Rattle.claims.specs.Readers.{Reader, loop64, recursive64, unsigned32, signed64, Value, Reply, number, refuse, Promised, width, form, OfWidth}
 use Rattle.claims.specs.Table.{Row}
 use Rattle.claims.specs.Claims.{Accepts, Refuses, Excludes, Exhausts}
-use Rattle.claims.proofs.Same.{same64, same32, same-i64, apart, refused-same}
+use Rattle.claims.proofs.Same.{apart, refused-same, given-value, given-count, same-both}
 use Rattle.claims.proofs.Rows.{row-refused, decide}
+use Rattle.claims.proofs.Told.{reply-told}
 
 -- a width's readings are the forms of its numbers
 pub record Reading {A : Type 0} (w : Width A) (form : A → List ℕ) (OfWidth : A → Type 0) : Type 0 where
@@ -34,15 +33,11 @@ pub record Reading {A : Type 0} (w : Width A) (form : A → List ℕ) (OfWidth :
   pub begins : (s : List ℕ) (at : ℕ) (v : A) (n : ℕ) → Bytes s → read w s at ≡ gives (v, n) → Begins form OfWidth s at v n
   pub begun : (s : List ℕ) (at : ℕ) (v : A) (n : ℕ) → Begins form OfWidth s at v n → read w s at ≡ gives (v, n)
 
--- what an answer means, and that its promise is its meaning
+-- what the promise of a number and of a refusal says of the reading
 pub record Laws (k : Reader) : Type 0 where
   pub reading : Reading (width k) (form k) (OfWidth k)
-  pub means : Reply k → Answer (Value k × ℕ)
-  pub number-means : (v : Value k) (n : Count) → means (number k v n) ≡ gives (v, n .0)
-  pub refuse-means : (why : Refusal) → means (refuse k why) ≡ refused (numberOf why)
-  pub same : (r r′ : Reply k) → means r ≡ means r′ → r ≡ r′
-  pub says : (s : List ℕ) (at : ℕ) (r : Reply k) → Promised k s at r → means r ≡ read (width k) s at
-  pub promised : (s : List ℕ) (at : ℕ) (r : Reply k) → means r ≡ read (width k) s at → Promised k s at r
+  pub number-says : (s : List ℕ) (at : ℕ) (v : Value k) (n : Count) → Promised k s at (number k v n) ↔ (read (width k) s at ≡ gives (v, n .0))
+  pub refusal-says : (s : List ℕ) (at : ℕ) (why : Refusal) → Promised k s at (refuse k why) ↔ (read (width k) s at ≡ refused (numberOf why))
 
 -- the numbers of the signed width, by their magnitude
 pub within : (v : ℤ) (h : ℕ) → mag v < h → (negℤ (pos h) ≤ℤ v) × (v <ℤ pos h)
@@ -81,29 +76,57 @@ signed-reading = record {
 }
 
 pub laws : (k : Reader) → Laws k
-laws loop64 = record { reading = reading64; means = meaning64; number-means = λ v n. refl; refuse-means = λ why. refl; same = same64; says = λ s at r p. p .is; promised = λ s at r e. record { is = e } }
-laws recursive64 = record { reading = reading64; means = meaning64; number-means = λ v n. refl; refuse-means = λ why. refl; same = same64; says = λ s at r p. p .is; promised = λ s at r e. record { is = e } }
-laws unsigned32 = record { reading = reading32; means = meaning32; number-means = λ v n. refl; refuse-means = λ why. refl; same = same32; says = λ s at r p. p .is; promised = λ s at r e. record { is = e } }
-laws signed64 = record { reading = signed-reading; means = meaningI64; number-means = λ v n. refl; refuse-means = λ why. refl; same = same-i64; says = λ s at r p. p .is; promised = λ s at r e. record { is = e } }
+laws loop64 = record {
+  reading = reading64;
+  number-says = λ s at v n. (λ p. sym (p .is), λ e. unsigned-widths.numbers e);
+  refusal-says = λ s at why. (λ p. sym (p .is), λ e. unsigned-widths.refuses why e);
+}
+laws recursive64 = record {
+  reading = reading64;
+  number-says = λ s at v n. (λ p. sym (p .is), λ e. unsigned-widths.numbers e);
+  refusal-says = λ s at why. (λ p. sym (p .is), λ e. unsigned-widths.refuses why e);
+}
+laws unsigned32 = record {
+  reading = reading32;
+  number-says = λ s at v n. (λ p. sym (p .is), λ e. unsigned-widths.numbers32 e);
+  refusal-says = λ s at why. (λ p. sym (p .is), λ e. unsigned-widths.refuses32 why e);
+}
+laws signed64 = record {
+  reading = signed-reading;
+  number-says = λ s at v n. (λ p. sym (p .is), λ e. signed-widths.numbers e);
+  refusal-says = λ s at why. (λ p. sym (p .is), λ e. signed-widths.refuses why e);
+}
 
--- an answer and what it means
+-- an answer and what it says
 module _ (k : Reader) (l : Laws k) (s : List ℕ) (at : ℕ) where
-  pub number-read : (v : Value k) (n : Count) → Promised k s at (number k v n) → read (width k) s at ≡ gives (v, n .0)
-  number-read v n p = sym (l .says s at (number k v n) p) ∙ l .number-means v n
+  pub number-read : (r : Reply k) (v : Value k) (n : Count) → r ≡ number k v n → Promised k s at r → read (width k) s at ≡ gives (v, n .0)
+  number-read r v n e p = l .number-says s at v n .0 (subst (Promised k s at) e p)
+
+  pub refusal-read : (r : Reply k) (why : Refusal) → r ≡ refuse k why → Promised k s at r → read (width k) s at ≡ refused (numberOf why)
+  refusal-read r why e p = l .refusal-says s at why .0 (subst (Promised k s at) e p)
 
   pub read-number : (r : Reply k) (v : Value k) (n : Count) → Promised k s at r → read (width k) s at ≡ gives (v, n .0) → r ≡ number k v n
-  read-number r v n p e = l .same r (number k v n) (l .says s at r p ∙ e ∙ sym (l .number-means v n))
-
-  pub refusal-read : (why : Refusal) → Promised k s at (refuse k why) → read (width k) s at ≡ refused (numberOf why)
-  refusal-read why p = sym (l .says s at (refuse k why) p) ∙ l .refuse-means why
+  read-number r v n p e =
+      reply-told k r
+      (λ u m d.
+      let q : _≡_ {A = Answer (Value k × ℕ)} (gives (u, m .0)) (gives (v, n .0)) = sym (number-read r u m d p) ∙ e in
+      d ∙ ap (λ (x : Value k × ℕ). number k (x .0) (record { 0 = x .1 })) (same-both (given-value q) (given-count q)))
+      (λ why d. apart (sym e ∙ refusal-read r why d p))
 
   pub read-refusal : (r : Reply k) (why : Refusal) → Promised k s at r → read (width k) s at ≡ refused (numberOf why) → r ≡ refuse k why
-  read-refusal r why p e = l .same r (refuse k why) (l .says s at r p ∙ e ∙ sym (l .refuse-means why))
+  read-refusal r why p e =
+      reply-told k r (λ v n d. apart (sym (number-read r v n d p) ∙ e))
+      (λ a d. d ∙ ap (refuse k) (refused-same a why (sym (refusal-read r a d p) ∙ e)))
+
+  pub one-reply : (r r′ : Reply k) → Promised k s at r → Promised k s at r′ → r ≡ r′
+  one-reply r r′ p q =
+      reply-told k r (λ v n e. e ∙ sym (read-number r′ v n q (number-read r v n e p)))
+      (λ why e. e ∙ sym (read-refusal r′ why q (refusal-read r why e p)))
 
 -- 1
 pub accepts : (k : Reader) → Laws k → Accepts k
 accepts k l s at r bytes p v n = (
-  λ e. l .reading .begins s at v (n .0) bytes (number-read k l s at v n (subst (Promised k s at) e p)),
+  λ e. l .reading .begins s at v (n .0) bytes (number-read k l s at r v n e p),
   λ b. read-number k l s at r v n p (l .reading .begun s at v (n .0) b),
 )
 
@@ -117,7 +140,7 @@ read-row k l s at bytes why e =
 
 pub refuses : (k : Reader) → Laws k → Refuses k
 refuses k l s at r bytes p why = (
-  λ e. read-row k l s at bytes why (refusal-read k l s at why (subst (Promised k s at) e p)),
+  λ e. read-row k l s at bytes why (refusal-read k l s at r why e p),
   λ row. read-refusal k l s at r why p (row-refused (width k) (l .reading .sound) why s at row),
 )
 

@@ -4,18 +4,12 @@ use mathlib.Core.Path.{_≡_, refl, ap, sym, _∙_, subst}
 use mathlib.Core.Logic.{_↔_}
 use native.Mathlib.Omega.{arith}
 use lib.Dec.{eqb}
-use lib.IntN.{ℤ}
 use Rattle.words.specs.Answer.{pick, Answer, gives, refused, meaning}
 use Rattle.words.specs.Refusal.{numberOf}
 use Rattle.words.specs.declared.Refusal.{Refusal}
 use Rattle.words.specs.declared.Refusal.the-variants.{End, Overflow, NotShortest, Place, NoRoom, NotAStart, TooLong, NoStart}
 use Rattle.words.specs.declared.Written.{Written}
 use Rattle.words.specs.declared.Written.the-variants as W
-use Rattle.uleb128_reading.specs.Promise.{meaning64, meaning32}
-use Rattle.uleb128_reading.specs.declared.ReadU64.{ReadU64}
-use Rattle.uleb128_reading.specs.declared.ReadU64.the-variants as R64
-use Rattle.uleb128_reading.specs.declared.ReadU32.{ReadU32}
-use Rattle.uleb128_reading.specs.declared.ReadU32.the-variants as R32
 use Rattle.blocks.specs.Block.{Val, unsigned, signed, Stepped, number, gap, tail, finished, refuses}
 use Rattle.blocks.specs.Promise.{valueOf, meaning as meaningStep, meaningSet}
 use Rattle.blocks.specs.declared.Step.{Step}
@@ -34,9 +28,6 @@ use Rattle.listing.specs.declared.Next.the-variants as X
 use Rattle.lists.specs.Promise.{meaning as meaningList}
 use Rattle.lists.specs.declared.ReadList.{ReadList}
 use Rattle.lists.specs.declared.ReadList.the-variants as L
-use Rattle.sleb128.specs.Promise.{meaning as meaningI64}
-use Rattle.sleb128.specs.declared.ReadI64.{ReadI64}
-use Rattle.sleb128.specs.declared.ReadI64.the-variants as RI64
 
 -- the refusal of a number
 abbrev refusalOf : ℕ → Refusal
@@ -92,21 +83,6 @@ pub same-written : (r r′ : Written) → meaning r ≡ meaning r′ → r ≡ r
 same-written =
     same-by meaning (back (λ (n : ℕ). W.Bytes (record { 0 = n })) W.Refused)
     (λ r. elim r [ W.Bytes n ↦ refl | W.Refused a ↦ ap W.Refused (refusal-back a) ])
-
-pub same64 : (r r′ : ReadU64) → meaning64 r ≡ meaning64 r′ → r ≡ r′
-same64 =
-    same-by meaning64 (back (λ (p : ℕ × ℕ). R64.Number (p .0) (record { 0 = p .1 })) R64.Refused)
-    (λ r. elim r [ R64.Number v n ↦ refl | R64.Refused a ↦ ap R64.Refused (refusal-back a) ])
-
-pub same32 : (r r′ : ReadU32) → meaning32 r ≡ meaning32 r′ → r ≡ r′
-same32 =
-    same-by meaning32 (back (λ (p : ℕ × ℕ). R32.Number (p .0) (record { 0 = p .1 })) R32.Refused)
-    (λ r. elim r [ R32.Number v n ↦ refl | R32.Refused a ↦ ap R32.Refused (refusal-back a) ])
-
-pub same-i64 : (r r′ : ReadI64) → meaningI64 r ≡ meaningI64 r′ → r ≡ r′
-same-i64 =
-    same-by meaningI64 (back (λ (p : ℤ × ℕ). RI64.Number (p .0) (record { 0 = p .1 })) RI64.Refused)
-    (λ r. elim r [ RI64.Number v n ↦ refl | RI64.Refused a ↦ ap RI64.Refused (refusal-back a) ])
 
 pub same-set : (r r′ : SetDown) → meaningSet r ≡ meaningSet r′ → r ≡ r′
 same-set =

@@ -22,7 +22,7 @@ use Rattle.claims.specs.Readers.{Reader, loop64, recursive64, unsigned32
 use Rattle.claims.specs.Writers.{Laying}
 use Rattle.claims.specs.Claims.{LaysExactly, Writes, WritesLists, WriteRead, ReadWrite, MoreBehind, SomeByte}
 use Rattle.claims.proofs.Same.{same-written, apart, refused-same}
-use Rattle.claims.proofs.Laws.{Laws, number-read, read-number}
+use Rattle.claims.proofs.Laws.{Laws, read-number}
 
 -- what is promised of a write, by its room
 module _ (bytes s : List ℕ) (at : ℕ) (r : Written) (out : List ℕ) (w : Lays bytes s at r out) where
@@ -108,7 +108,7 @@ write-read k l v before at n after r of-width p q =
 
 module _ (k : Reader) (l : Laws k) (s : List ℕ) (at : ℕ) (v : Value k) (n : Count) (bytes : Bytes s) (p : Promised k s at (number k v n)) where
   stands : Begins (form k) (OfWidth k) s at v (n .0)
-  stands = l .reading .begins s at v (n .0) bytes (number-read k l s at v n p)
+  stands = l .reading .begins s at v (n .0) bytes (l .number-says s at v n .0 p)
 
   taken : at + length (form k v) ≤ length s
   taken =

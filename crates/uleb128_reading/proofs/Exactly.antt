@@ -56,11 +56,11 @@ module _ (most top : ℕ) (some : 0 < most) (low : top < 128) (s : List ℕ) (at
 
 module _ {most top : ℕ} (some : 0 < most) (low : top < 128) {s : List ℕ} {at : ℕ} {r : ReadU64} (p : Reads (unsigned most top) s at r) where
   -- what an answer's case says of the reading
-  pub number-read : {v : ℕ} {n : Count} → r ≡ Number v n → gives (v, n .0) ≡ read (unsigned most top) s at
-  number-read e = ap meaning64 (sym e) ∙ p .is
+  pub number-read : {v : ℕ} {n : Count} → r ≡ Number v n → read (unsigned most top) s at ≡ gives (v, n .0)
+  number-read e = sym (p .is) ∙ ap meaning64 e
 
-  pub refusal-read : {k : Refusal} → r ≡ Refused k → refused (numberOf k) ≡ read (unsigned most top) s at
-  refusal-read e = ap meaning64 (sym e) ∙ p .is
+  pub refusal-read : {k : Refusal} → r ≡ Refused k → read (unsigned most top) s at ≡ refused (numberOf k)
+  refusal-read e = sym (p .is) ∙ ap meaning64 e
 
   pub number-under : Bytes s → {v : ℕ} {n : Count} → r ≡ Number v n → Under most top v
-  number-under bytes e = read-begins most top some low s at bytes (sym (number-read e)) .of-width
+  number-under bytes e = read-begins most top some low s at bytes (number-read e) .of-width

@@ -28,7 +28,7 @@ use Rattle.uleb128_recursive.specs.Inner.{ahead, Joins}
 use Rattle.uleb128_reading.specs.Promise.{meaning64, Reads}
 use Rattle.uleb128_reading.specs.declared.ReadU64.{ReadU64}
 use Rattle.uleb128_reading.specs.declared.ReadU64.the-variants.{Number, Refused}
-use Rattle.uleb128_reading.proofs.Widths.{sound}
+use Rattle.uleb128_reading.proofs.Widths.{sound, Refuses, refuses, numbers}
 use Rattle.uleb128_reading.proofs.Exactly.{number-under}
 
 -- a number that is one byte 0
@@ -95,11 +95,11 @@ module _ (k top : ℕ) (some : 0 < k) (b : ℕ) (l : List ℕ) (hi : 128 ≤ b) 
       (ahead-pick b 3 (tooMany (unsigned k top) l) _))))
 
 module _ (left : ℕ) (some : 0 < left) (s : List ℕ) (at : ℕ) where
-  pub rest-end : at ≤ length s → length s ≤ at → Reads (unsigned left 1) s at (Refused Why.End)
+  pub rest-end : at ≤ length s → length s ≤ at → Refuses (unsigned left 1) s at Why.End
   unfolding run
   rest-end h e =
       let n : drop at s ≡ [] = drop-of-length-le s e in
-      record { is = sym (read-from (unsigned left 1) s at h ∙ rw n (row-end (unsigned left 1) [] refl some)) }
+      refuses Why.End (read-from (unsigned left 1) s at h ∙ rw n (row-end (unsigned left 1) [] refl some))
 
   module _ (there : at < length s) where
     bytes-from : drop at s ≡ getD s at 0 ∷ drop (suc at) s
@@ -109,31 +109,27 @@ module _ (left : ℕ) (some : 0 < left) (s : List ℕ) (at : ℕ) where
     reading-from = read-from (unsigned left 1) s at (omega arith) ∙ ap (reading (unsigned left 1)) bytes-from
 
     module _ (low : getD s at 0 < 128) where
-      pub rest-large : left < 2 → 1 < getD s at 0 → Reads (unsigned left 1) s at (Refused Why.Overflow)
+      pub rest-large : left < 2 → 1 < getD s at 0 → Refuses (unsigned left 1) s at Why.Overflow
       rest-large l h =
           let i : left - 1 ≡ 0 = omega arith in
-          record {
-            is = sym (reading-from ∙ row-large (unsigned left 1) (getD s at 0 ∷ drop (suc at) s) (omega arith) (omega arith)
-                (rw i (lt-leb (getD s at 0) 1 h)));
-          }
+          refuses Why.Overflow
+          (reading-from ∙ row-large (unsigned left 1) (getD s at 0 ∷ drop (suc at) s) (omega arith) (omega arith) (rw i (lt-leb (getD s at 0) 1 h)))
 
       pub rest-last : (left < 2 → getD s at 0 ≤ 1) → Reads (unsigned left 1) s at (Number (getD s at 0) (record { 0 = 1 }))
       unfolding digits
       rest-last f =
           let z = run-low (getD s at 0) (drop (suc at) s) low in
-          record {
-            is = sym (reading-from ∙ row-number (unsigned left 1) (getD s at 0 ∷ drop (suc at) s) (rw z (omega arith)) (rw z (omega arith))
-                (λ e. rw z (le-leb (getD s at 0) 1 (f (omega arith)))) (λ h. absurd (omega arith))
-                ∙ rw (z, mod-eq-of-lt low, add-zero));
-          }
+          numbers
+          (reading-from ∙ row-number (unsigned left 1) (getD s at 0 ∷ drop (suc at) s) (rw z (omega arith)) (rw z (omega arith))
+          (λ e. rw z (le-leb (getD s at 0) 1 (f (omega arith)))) (λ h. absurd (omega arith))
+          ∙ rw (z, mod-eq-of-lt low, add-zero))
 
     module _ (high : 128 ≤ getD s at 0) where
-      pub rest-overrun : left < 2 → Reads (unsigned left 1) s at (Refused Why.Overflow)
+      pub rest-overrun : left < 2 → Refuses (unsigned left 1) s at Why.Overflow
       rest-overrun l =
-          record {
-            is = sym (overrun (unsigned left 1) (sound left 1 some (omega arith)) s at (omega arith)
-                (rw (bytes-from, run-high (getD s at 0) (drop (suc at) s) high) (omega arith)));
-          }
+          refuses Why.Overflow
+          (overrun (unsigned left 1) (sound left 1 some (omega arith)) s at (omega arith)
+          (rw (bytes-from, run-high (getD s at 0) (drop (suc at) s) high) (omega arith)))
 
       pub rest-ahead : 1 < left → {r r′ : ReadU64} → Reads (unsigned (left - 1) 1) s (at + 1) r → meaning64 r′ ≡ ahead (getD s at 0) (meaning64 r)
           → Reads (unsigned left 1) s at r′

@@ -1,6 +1,6 @@
 -- `blocks::set_down` meets its promise: a law of `Rows` for each answer.
-use Prim.Native.Nat.{_-_}
-use mathlib.Core.Path.{refl, _∙_}
+use Prim.Native.Nat.{_+_, _-_}
+use mathlib.Core.Path.{refl, ap, _∙_}
 use native.Mathlib.Omega.{arith}
 use Rattle.blocks.proofs.Runs.{within}
 use Rattle.blocks.proofs.Rows.{set-too-long, set-past, set-front, set-found, set-none}
@@ -28,7 +28,7 @@ past-requires c κs = search needs
 
 returns-4 : tie.Need-returns-4
 returns-4 c =
-    set-found _ _ (search needs) (search needs) (search needs) _ (c .past .ensures ∙ rw (c .before .before .high-run .ensures)) (rw (c .before .before .high-run .ensures) at (c .before .if4 .taken))
+    set-found _ _ (search needs) (search needs) (search needs) _ (c .past .ensures ∙ ap (_+_ _) (c .before .before .high-run .ensures)) (rw (c .before .before .high-run .ensures) at (c .before .if4 .taken))
 
 returns-5 : tie.Need-returns-5
 returns-5 c =
