@@ -1,6 +1,6 @@
 -- The one value of `Claims`: everything that is claimed, proved.
 use Prim.Native.Nat.{_^_, _-_, _<_}
-use mathlib.Core.Path.{_≡_, refl, sym, _∙_}
+use mathlib.Core.Path.{_≡_, refl}
 use mathlib.Core.List.{[], _∷_}
 use native.Mathlib.Nat.{lt-trans}
 use native.Mathlib.Omega.{arith}
@@ -17,7 +17,7 @@ use Rattle.sleb128.proofs.Forms.{form-spelled}
 use Rattle.claims.specs.Readers.{Reader, loop64, recursive64, unsigned32, signed64, Value, form}
 use Rattle.claims.specs.Try.{Starred}
 use Rattle.claims.specs.Claims.{Claims, Most, zero-of}
-use Rattle.claims.proofs.Laws.{laws, accepts, refuses, excludes, exhausts, within, within-mag, one-reply}
+use Rattle.claims.proofs.Laws.{accepts, refuses, excludes, exhausts, within, within-mag, one-reply}
 use Rattle.claims.proofs.Trips.{writes, writes-list, write-read, read-write, more-behind, some-byte}
 use Rattle.claims.proofs.Spelled.{two-sentences, twos-complement, signed-form, one-too-many, signed-most}
 use Rattle.claims.proofs.Sources.{parse-same, serialize-same}
@@ -61,10 +61,10 @@ starred =
 
 pub all : Claims
 all = record {
-  accepts = λ k. accepts k (laws k);
-  refuses = λ k. refuses k (laws k);
-  excludes = λ k. excludes k (laws k);
-  exhausts = λ k. exhausts k (laws k);
+  accepts = accepts;
+  refuses = refuses;
+  excludes = excludes;
+  exhausts = exhausts;
   writes = writes;
   shortest = two-sentences;
   lengths = length-is;
@@ -73,12 +73,12 @@ all = record {
   twos-complement = twos-complement;
   signed-form = signed-form;
   one-too-many = λ g r. one-too-many r;
-  read-alike = λ s at r r′ p q. one-reply loop64 (laws loop64) s at r r′ p q;
+  read-alike = λ s at r r′ p q. one-reply loop64 s at r r′ p q;
   write-alike = λ v s at r r′ out out′ p q. same-lays p q;
-  write-read = λ k. write-read k (laws k);
-  read-write = λ k. read-write k (laws k);
-  more-behind = λ k. more-behind k (laws k);
-  some-byte = λ k. some-byte k (laws k) (some-bytes-of k);
+  write-read = write-read;
+  read-write = read-write;
+  more-behind = more-behind;
+  some-byte = λ k. some-byte k (some-bytes-of k);
   source-parse = parse-same;
   source-serialize = serialize-same;
   starred = starred;

@@ -24,7 +24,7 @@ use Rattle.listing.specs.Promise.{stageOf, asked, fronted}
 use Rattle.claims.specs.Readers.{Reader, loop64, recursive64, unsigned32, signed64, Value, Reply, number, refuse, Promised, width, form}
 use Rattle.claims.specs.Writers.{Laying, Length}
 use Rattle.claims.specs.Claims.{Both, Met, One}
-use Rattle.claims.proofs.Laws.{laws, one-reply}
+use Rattle.claims.proofs.Laws.{number-says, refusal-says, one-reply}
 use Rattle.claims.proofs.Same.{same-written, same-step, same-set, same-list, same-next}
 use Rattle.claims.proofs.Trips.{lays as lays-form}
 use Rattle.claims.proofs.Told.{read-told}
@@ -67,8 +67,8 @@ some-length signed64 v = (record { 0 = length (signed.form v) }, record { is = r
 some-reply : (k : Reader) (s : List ℕ) (at : ℕ) → (r : Reply k) × Promised k s at r
 some-reply k s at =
     read-told (width k) s at
-    (λ v n e. (number k v (record { 0 = n }), laws k .number-says s at v (record { 0 = n }) .1 e))
-    (λ why e. (refuse k why, laws k .refusal-says s at why .1 e))
+    (λ v n e. (number k v (record { 0 = n }), number-says k s at v (record { 0 = n }) .1 e))
+    (λ why e. (refuse k why, refusal-says k s at why .1 e))
 
 pub met : Met
 met = record {
@@ -101,7 +101,7 @@ one = record {
   number = λ why n m p q. p .is ∙ sym (q .is);
   walk = λ s at r r′ p q. p .is ∙ sym (q .is);
   store = λ m below n s at r r′ out out′ p q. same-lays p q;
-  reply = λ k. one-reply k (laws k);
+  reply = λ k. one-reply k;
   written = λ k v s at r r′ out out′ p q. same-lays (lays-form k v p) (lays-form k v q);
   length = λ k v r r′ p q. ap (λ (n : ℕ). record { 0 = n }) (length-is k v r p ∙ sym (length-is k v r′ q));
   step = λ rule s p r r′ a b. same-step r r′ (a .is ∙ sym (b .is));

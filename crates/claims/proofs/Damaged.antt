@@ -17,7 +17,7 @@ use Rattle.blocks.proofs.Cuts.{total, all-bytes, Some, some-each}
 use Rattle.blocks.specs.declared.Rule.{Rule}
 use Rattle.claims.specs.Blocks.{GroupAt}
 use Rattle.claims.specs.Listed.{placed, listed, ending, from, less}
-use Rattle.claims.specs.Readings.{Block, told, Reads}
+use Rattle.claims.specs.Readings.{Block, told, Gives}
 use Rattle.claims.specs.Damage.{Front, Back, FrontRead, BackRead}
 use Rattle.claims.proofs.Damage.{ends-before, begins-behind, groups-local}
 use Rattle.claims.proofs.Listed.{ends-within, begins-from}
@@ -67,7 +67,7 @@ moved f f′ n n′ p (g ∷ gs) e =
 pub front-read : FrontRead
 front-read a x y b f f′ l l′ old new e k k′ = part f x l old k ∙ alike f f′ (length a) 0 (cut a .groups) (some-each a) (omega (arith, all-bytes a)) e ∙ sym (part f′ y l′ new k′)
   where
-    part : (f : ℕ → Rule) (z : List ℕ) (l : List (ℕ × ℕ × Answer Val)) → Block (a ++ z ++ b) → Reads f (a ++ z ++ b) 0 l → ending (length a) l ≡ told f (listed a)
+    part : (f : ℕ → Rule) (z : List ℕ) (l : List (ℕ × ℕ × Answer Val)) → Block (a ++ z ++ b) → Gives f (a ++ z ++ b) 0 l → ending (length a) l ≡ told f (listed a)
     part f z l k r =
         rw (reads-all f (a ++ z ++ b) k l r)
         (told-ending f (length a) (listed (a ++ z ++ b))
@@ -84,7 +84,7 @@ back-read a x y b f f′ l l′ old new e k k′ =
     (λ q. e (n + q) (n′ + q) (omega arith) (omega (arith, length-append a x, length-append a y))))
     ∙ sym (ap (less n′) (part f′ (a ++ y) l′ new k′))
   where
-    part : (f : ℕ → Rule) (c : List ℕ) (l : List (ℕ × ℕ × Answer Val)) → Block (c ++ b) → Reads f (c ++ b) 0 l
+    part : (f : ℕ → Rule) (c : List ℕ) (l : List (ℕ × ℕ × Answer Val)) → Block (c ++ b) → Gives f (c ++ b) 0 l
         → from (length c + run b + 1) l ≡ told f (placed (length c + run b + 1) (cut (drop (run b + 1) b) .groups))
     part f c l k r =
         rw (reads-all f (c ++ b) k l r)

@@ -27,7 +27,7 @@ use Rattle.claims.specs.Readers.{loop64, OfWidth}
 use Rattle.claims.specs.Table.{Row, GapRow}
 use Rattle.claims.specs.Strict.{Words, Numbers, Fault, FirstFault}
 use Rattle.claims.proofs.Grouped.{from-front, group-bytes, empty, read-group}
-use Rattle.claims.proofs.Laws.{laws, exhausts}
+use Rattle.claims.proofs.Laws.{reading-of, exhausts}
 use Rattle.claims.proofs.Lists.{form-alone, numbers-ahead}
 use Rattle.claims.proofs.Rows.{row-refused, high-run, run-high}
 
@@ -39,14 +39,14 @@ data Sorted (g : List ℕ) : Type 0 where
 sorted : (g : List ℕ) → Group g → Sorted g
 sorted g k =
     ⊎-elim (λ (row : (why : Refusal) × Row u64 why g 0).
-    let e = sym (from-front u64 g) ∙ row-refused u64 (laws loop64 .reading .sound) (row .0) g 0 (row .1) in
+    let e = sym (from-front u64 g) ∙ row-refused u64 (reading-of loop64 .sound) (row .0) g 0 (row .1) in
     gap (row .0) e (read-group loop64 g k .gap (row .0) .0 e))
     (λ (b : (v : ℕ) × (n : ℕ) × Begins form (OfWidth loop64) g 0 v n).
-    let e = sym (from-front u64 g) ∙ laws loop64 .reading .begun g 0 (b .0) (b .1) (b .2) in
+    let e = sym (from-front u64 g) ∙ reading-of loop64 .begun g 0 (b .0) (b .1) (b .2) in
     let n : b .1 ≡ length g = reading-count u64 g e ∙ omega (arith, group-length k) in
     let f = read-group loop64 g k .number (b .0) .0 (rw n at e) in
     number (b .0) (f .0) (f .1))
-    (exhausts loop64 (laws loop64) g 0 (group-bytes k))
+    (exhausts loop64 g 0 (group-bytes k))
 
 -- what the numbers of a block say of it
 pub data Outcome (s : List ℕ) : Answer (List ℕ) → Type 0 where

@@ -20,7 +20,7 @@ use Rattle.groups.proofs.Exact.{group-length}
 use Rattle.claims.specs.Readers.{Reader, Value, width, form, OfWidth}
 use Rattle.claims.specs.Table.{Row, GapRow}
 use Rattle.claims.specs.Claims.{ReadGroup}
-use Rattle.claims.proofs.Laws.{laws, read-row}
+use Rattle.claims.proofs.Laws.{reading-of, read-row}
 use Rattle.claims.proofs.Rows.{row-refused, high-run}
 
 pub from-front : {A : Type 0} (w : Width A) (s : List ℕ) → read w s 0 ≡ reading w s
@@ -40,14 +40,14 @@ group-bytes (more h b k) (suc i) = group-bytes k i
 module _ (k : Reader) (g : List ℕ) where
   is-form : (v : Value k) → Group g → reading (width k) g ≡ gives (v, length g) → OfWidth k v × (g ≡ form k v)
   is-form v group e =
-      let b = laws k .reading .begins g 0 v (length g) (group-bytes group) (from-front (width k) g ∙ e) in
+      let b = reading-of k .begins g 0 v (length g) (group-bytes group) (from-front (width k) g ∙ e) in
       let l : length g ≡ length (form k v) + length (b .rest) = ap length (b .begins) ∙ length-append (form k v) (b .rest) in
       let none : b .rest ≡ [] = empty (b .rest) (omega (arith, b .count)) in
       (b .of-width, b .begins ∙ ap (λ (t : List ℕ). form k v ++ t) none ∙ append-nil (form k v))
 
   form-is : (v : Value k) → OfWidth k v → g ≡ form k v → reading (width k) g ≡ gives (v, length g)
   form-is v h e =
-      sym (from-front (width k) g) ∙ laws k .reading .begun g 0 v (length g) (record {
+      sym (from-front (width k) g) ∙ reading-of k .begun g 0 v (length g) (record {
         here = omega arith;
         of-width = h;
         rest = [];
@@ -79,7 +79,7 @@ module _ (k : Reader) (g : List ℕ) where
   read-group group = record {
     number = λ v. (is-form v group, λ h. form-is v (h .0) (h .1));
     gap = λ why. (
-      λ e. gap-row why group (read-row k (laws k) g 0 (group-bytes group) why (from-front (width k) g ∙ e)),
-      λ row. sym (from-front (width k) g) ∙ row-refused (width k) (laws k .reading .sound) why g 0 (row-gap why row),
+      λ e. gap-row why group (read-row k g 0 (group-bytes group) why (from-front (width k) g ∙ e)),
+      λ row. sym (from-front (width k) g) ∙ row-refused (width k) (reading-of k .sound) why g 0 (row-gap why row),
     );
   }

@@ -32,7 +32,7 @@ use Rattle.claims.specs.Writers.{Laying}
 use Rattle.claims.specs.Blocks.{GroupAt}
 use Rattle.claims.specs.Readings.{Block}
 use Rattle.claims.specs.Claims.{zero-of}
-use Rattle.claims.proofs.Laws.{laws}
+use Rattle.claims.proofs.Laws.{number-says}
 
 abbrev count : ℕ → Count
 count n = record { 0 = n }
@@ -56,7 +56,7 @@ module _ where
   reads-zero signed64 = refl
 
   read-back : (k : Reader) → Promised k (0 ∷ []) 0 (number k (zero-of k) (count 1))
-  read-back k = laws k .number-says (0 ∷ []) 0 (zero-of k) (count 1) .1 (reads-zero k)
+  read-back k = number-says k (0 ∷ []) 0 (zero-of k) (count 1) .1 (reads-zero k)
 
   list : WritesList (0 ∷ []) (1 ∷ []) 0 (W.Bytes (count 1)) (0 ∷ [])
   unfolding forms unsigned.form spell spellings writing laid

@@ -13,11 +13,13 @@ use Rattle.words.specs.declared.Count.{Count}
 use Rattle.words.specs.declared.Refusal.{Refusal}
 use Rattle.groups.specs.Begins.{Begins}
 use Rattle.groups.specs.Group.{Bytes}
-use Rattle.groups.specs.Width.{Width, read}
+use Rattle.groups.specs.Width.{Width, read, Reads}
+use Rattle.groups.proofs.Rows.{keeps}
 use Rattle.groups.proofs.Walks.{Sound}
 use Rattle.groups.proofs.Standing.{Stands, standing}
+use Rattle.uleb128_writing.specs.Unsigned as unsigned
 use Rattle.uleb128_reading.proofs.Widths as unsigned-widths
-use Rattle.uleb128_reading.proofs.Exactly as unsigned-exactly
+use Rattle.uleb128_reading.proofs.Exactly.{Under, read-begins, begins-read}
 use Rattle.sleb128.proofs.Widths as signed-widths
 use Rattle.sleb128.proofs.Exactly as signed-exactly
 use Rattle.claims.specs.Readers.{Reader, loop64, recursive64, unsigned32, signed64, Value, Reply, number, refuse, Promised, width, form, OfWidth}
@@ -32,12 +34,6 @@ pub record Reading {A : Type 0} (w : Width A) (form : A → List ℕ) (OfWidth :
   pub sound : Sound w
   pub begins : (s : List ℕ) (at : ℕ) (v : A) (n : ℕ) → Bytes s → read w s at ≡ gives (v, n) → Begins form OfWidth s at v n
   pub begun : (s : List ℕ) (at : ℕ) (v : A) (n : ℕ) → Begins form OfWidth s at v n → read w s at ≡ gives (v, n)
-
--- what the promise of a number and of a refusal says of the reading
-pub record Laws (k : Reader) : Type 0 where
-  pub reading : Reading (width k) (form k) (OfWidth k)
-  pub number-says : (s : List ℕ) (at : ℕ) (v : Value k) (n : Count) → Promised k s at (number k v n) ↔ (read (width k) s at ≡ gives (v, n .0))
-  pub refusal-says : (s : List ℕ) (at : ℕ) (why : Refusal) → Promised k s at (refuse k why) ↔ (read (width k) s at ≡ refused (numberOf why))
 
 -- the numbers of the signed width, by their magnitude
 pub within : (v : ℤ) (h : ℕ) → mag v < h → (negℤ (pos h) ≤ℤ v) × (v <ℤ pos h)
@@ -54,18 +50,11 @@ within-mag (negsuc n) (suc h) p a b = let q : n ≤ h = leb→le n h (a .le) in 
 rewidth : {A : Type 0} {f : A → List ℕ} {P Q : A → Type 0} {s : List ℕ} {at n : ℕ} {v : A} → (P v → Q v) → Begins f P s at v n → Begins f Q s at v n
 rewidth g b = record { here = b .here; of-width = g (b .of-width); rest = b .rest; begins = b .begins; count = b .count }
 
-reading64 : Reading (width loop64) (form loop64) (OfWidth loop64)
-reading64 = record {
-  sound = unsigned-widths.sound 10 1 (omega arith) (omega arith);
-  begins = λ s at v n. unsigned-exactly.read-begins 10 1 (omega arith) (omega arith) s at;
-  begun = λ s at v n. unsigned-exactly.begins-read 10 1 (omega arith) (omega arith) s at;
-}
-
-reading32 : Reading (width unsigned32) (form unsigned32) (OfWidth unsigned32)
-reading32 = record {
-  sound = unsigned-widths.sound 5 15 (omega arith) (omega arith);
-  begins = λ s at v n. unsigned-exactly.read-begins 5 15 (omega arith) (omega arith) s at;
-  begun = λ s at v n. unsigned-exactly.begins-read 5 15 (omega arith) (omega arith) s at;
+unsigned-reading : (most top : ℕ) → 0 < most → top < 128 → Reading (unsigned.unsigned most top) unsigned.form (Under most top)
+unsigned-reading most top some low = record {
+  sound = unsigned-widths.sound most top some low;
+  begins = λ s at v n. read-begins most top some low s at;
+  begun = λ s at v n. begins-read most top some low s at;
 }
 
 signed-reading : Reading (width signed64) (form signed64) (OfWidth signed64)
@@ -75,35 +64,35 @@ signed-reading = record {
   begun = λ s at v n b. signed-exactly.begins-read s at (rewidth (λ l. within-mag v (2 ^ 63) (omega arith) (l .0) (l .1)) b);
 }
 
-pub laws : (k : Reader) → Laws k
-laws loop64 = record {
-  reading = reading64;
-  number-says = λ s at v n. (λ p. sym (p .is), λ e. unsigned-widths.numbers e);
-  refusal-says = λ s at why. (λ p. sym (p .is), λ e. unsigned-widths.refuses why e);
-}
-laws recursive64 = record {
-  reading = reading64;
-  number-says = λ s at v n. (λ p. sym (p .is), λ e. unsigned-widths.numbers e);
-  refusal-says = λ s at why. (λ p. sym (p .is), λ e. unsigned-widths.refuses why e);
-}
-laws unsigned32 = record {
-  reading = reading32;
-  number-says = λ s at v n. (λ p. sym (p .is), λ e. unsigned-widths.numbers32 e);
-  refusal-says = λ s at why. (λ p. sym (p .is), λ e. unsigned-widths.refuses32 why e);
-}
-laws signed64 = record {
-  reading = signed-reading;
-  number-says = λ s at v n. (λ p. sym (p .is), λ e. signed-widths.numbers e);
-  refusal-says = λ s at why. (λ p. sym (p .is), λ e. signed-widths.refuses why e);
-}
+pub reading-of : (k : Reader) → Reading (width k) (form k) (OfWidth k)
+reading-of loop64 = unsigned-reading 10 1 (omega arith) (omega arith)
+reading-of recursive64 = unsigned-reading 10 1 (omega arith) (omega arith)
+reading-of unsigned32 = unsigned-reading 5 15 (omega arith) (omega arith)
+reading-of signed64 = signed-reading
+
+-- what the promise of a number and of a refusal says of the reading
+told : {A : Type 0} {w : Width A} {s : List ℕ} {at : ℕ} {a : Answer (A × ℕ)} → Reads w s at a ↔ (read w s at ≡ a)
+told = (λ p. sym (p .is), keeps)
+
+pub number-says : (k : Reader) (s : List ℕ) (at : ℕ) (v : Value k) (n : Count) → Promised k s at (number k v n) ↔ (read (width k) s at ≡ gives (v, n .0))
+number-says loop64 s at v n = told
+number-says recursive64 s at v n = told
+number-says unsigned32 s at v n = told
+number-says signed64 s at v n = told
+
+pub refusal-says : (k : Reader) (s : List ℕ) (at : ℕ) (why : Refusal) → Promised k s at (refuse k why) ↔ (read (width k) s at ≡ refused (numberOf why))
+refusal-says loop64 s at why = told
+refusal-says recursive64 s at why = told
+refusal-says unsigned32 s at why = told
+refusal-says signed64 s at why = told
 
 -- an answer and what it says
-module _ (k : Reader) (l : Laws k) (s : List ℕ) (at : ℕ) where
+module _ (k : Reader) (s : List ℕ) (at : ℕ) where
   pub number-read : (r : Reply k) (v : Value k) (n : Count) → r ≡ number k v n → Promised k s at r → read (width k) s at ≡ gives (v, n .0)
-  number-read r v n e p = l .number-says s at v n .0 (subst (Promised k s at) e p)
+  number-read r v n e p = number-says k s at v n .0 (subst (Promised k s at) e p)
 
   pub refusal-read : (r : Reply k) (why : Refusal) → r ≡ refuse k why → Promised k s at r → read (width k) s at ≡ refused (numberOf why)
-  refusal-read r why e p = l .refusal-says s at why .0 (subst (Promised k s at) e p)
+  refusal-read r why e p = refusal-says k s at why .0 (subst (Promised k s at) e p)
 
   pub read-number : (r : Reply k) (v : Value k) (n : Count) → Promised k s at r → read (width k) s at ≡ gives (v, n .0) → r ≡ number k v n
   read-number r v n p e =
@@ -124,35 +113,35 @@ module _ (k : Reader) (l : Laws k) (s : List ℕ) (at : ℕ) where
       (λ why e. e ∙ sym (read-refusal r′ why q (refusal-read r why e p)))
 
 -- 1
-pub accepts : (k : Reader) → Laws k → Accepts k
-accepts k l s at r bytes p v n = (
-  λ e. l .reading .begins s at v (n .0) bytes (number-read k l s at r v n e p),
-  λ b. read-number k l s at r v n p (l .reading .begun s at v (n .0) b),
+pub accepts : (k : Reader) → Accepts k
+accepts k s at r bytes p v n = (
+  λ e. reading-of k .begins s at v (n .0) bytes (number-read k s at r v n e p),
+  λ b. read-number k s at r v n p (reading-of k .begun s at v (n .0) b),
 )
 
 -- 2
-pub read-row : (k : Reader) → Laws k → (s : List ℕ) (at : ℕ) → Bytes s → (why : Refusal) → read (width k) s at ≡ refused (numberOf why) → Row (width k) why s at
-read-row k l s at bytes why e =
+pub read-row : (k : Reader) → (s : List ℕ) (at : ℕ) → Bytes s → (why : Refusal) → read (width k) s at ≡ refused (numberOf why) → Row (width k) why s at
+read-row k s at bytes why e =
     ⊎-elim (λ (row : (a : Refusal) × Row (width k) a s at).
-    subst (λ (a : Refusal). Row (width k) a s at) (refused-same (row .0) why (sym (row-refused (width k) (l .reading .sound) (row .0) s at (row .1)) ∙ e)) (row .1))
+    subst (λ (a : Refusal). Row (width k) a s at) (refused-same (row .0) why (sym (row-refused (width k) (reading-of k .sound) (row .0) s at (row .1)) ∙ e)) (row .1))
     (λ (g : (v : Value k) × (n : ℕ) × Stands (width k) s at v n). apart (sym (standing (width k) s at (g .2)) ∙ e))
-    (decide (width k) (l .reading .sound) s at bytes)
+    (decide (width k) (reading-of k .sound) s at bytes)
 
-pub refuses : (k : Reader) → Laws k → Refuses k
-refuses k l s at r bytes p why = (
-  λ e. read-row k l s at bytes why (refusal-read k l s at r why e p),
-  λ row. read-refusal k l s at r why p (row-refused (width k) (l .reading .sound) why s at row),
+pub refuses : (k : Reader) → Refuses k
+refuses k s at r bytes p why = (
+  λ e. read-row k s at bytes why (refusal-read k s at r why e p),
+  λ row. read-refusal k s at r why p (row-refused (width k) (reading-of k .sound) why s at row),
 )
 
-pub excludes : (k : Reader) → Laws k → Excludes k
-excludes k l s at = (
-  λ a b p q. refused-same a b (sym (row-refused (width k) (l .reading .sound) a s at p) ∙ row-refused (width k) (l .reading .sound) b s at q),
-  λ a v n p b. apart (sym (l .reading .begun s at v n b) ∙ row-refused (width k) (l .reading .sound) a s at p),
+pub excludes : (k : Reader) → Excludes k
+excludes k s at = (
+  λ a b p q. refused-same a b (sym (row-refused (width k) (reading-of k .sound) a s at p) ∙ row-refused (width k) (reading-of k .sound) b s at q),
+  λ a v n p b. apart (sym (reading-of k .begun s at v n b) ∙ row-refused (width k) (reading-of k .sound) a s at p),
 )
 
-pub exhausts : (k : Reader) → Laws k → Exhausts k
-exhausts k l s at bytes =
+pub exhausts : (k : Reader) → Exhausts k
+exhausts k s at bytes =
     ⊎-elim (λ row. inl row)
     (λ (g : (v : Value k) × (n : ℕ) × Stands (width k) s at v n).
-    inr (g .0, g .1, l .reading .begins s at (g .0) (g .1) bytes (standing (width k) s at (g .2))))
-    (decide (width k) (l .reading .sound) s at bytes)
+    inr (g .0, g .1, reading-of k .begins s at (g .0) (g .1) bytes (standing (width k) s at (g .2))))
+    (decide (width k) (reading-of k .sound) s at bytes)

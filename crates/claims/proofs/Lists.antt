@@ -25,11 +25,11 @@ use Rattle.claims.specs.Strict.{Words}
 use Rattle.claims.proofs.Grouped.{from-front}
 use Rattle.claims.proofs.Same.{apart, same-list}
 use Rattle.claims.proofs.Trips.{writes-list}
-use Rattle.claims.proofs.Laws.{laws}
+use Rattle.claims.proofs.Laws.{reading-of}
 
 -- a number's form is read, whatever follows it
 read-form : (v : ℕ) (rest : List ℕ) → v < 2 ^ 64 → reading u64 (form v ++ rest) ≡ gives (v, length (form v))
-read-form v rest h = sym (from-front u64 (form v ++ rest)) ∙ laws loop64 .reading .begun (form v ++ rest) 0 v (length (form v)) (record {
+read-form v rest h = sym (from-front u64 (form v ++ rest)) ∙ reading-of loop64 .begun (form v ++ rest) 0 v (length (form v)) (record {
   here = omega arith;
   of-width = h;
   rest = rest;

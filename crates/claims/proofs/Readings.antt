@@ -27,7 +27,7 @@ use Rattle.blocks.specs.declared.Step.the-variants as S
 use Rattle.blocks.proofs.Cuts.{cut-group, cut-tail}
 use Rattle.claims.specs.Listed.{placed, listed}
 use Rattle.claims.specs.Blocks.{Start, GroupAt, TailAt, GroupReads, StepRefused, StepRow}
-use Rattle.claims.specs.Readings.{Block, told, Reads, at-end, at-tail, at-number, at-gap, ReaderFrom}
+use Rattle.claims.specs.Readings.{Block, told, Gives, at-end, at-tail, at-number, at-gap, ReaderFrom}
 use Rattle.claims.proofs.Rows.{high-run}
 use Rattle.claims.proofs.Stepped.{run-of, group-is, group-ends, row-steps, row-found, step-rows}
 use Rattle.claims.proofs.Listed.{from-start}
@@ -70,7 +70,7 @@ module _ (f : ℕ → Rule) (s : List ℕ) where
       rw (k .count, ← (k .reads), ih (rw (k .next) (next-start (k .stands))), k .next) (sym (at-group p (k .group) (k .stands)))
 
   module _ (block : Block s) where
-    all-given : (p : ℕ) (l : List (ℕ × ℕ × Answer Val)) → Start s p → Reads f s p l → l ≡ from-here p
+    all-given : (p : ℕ) (l : List (ℕ × ℕ × Answer Val)) → Start s p → Gives f s p l → l ≡ from-here p
     all-given p _ k (at-end _ c a) = sym (no-group-at-end p (step-rows (f p) s p (S.Finished c) (block .bytes) .0 a .1))
     all-given p _ k (at-tail _ n c a) = sym (no-group-in-tail p (step-rows (f p) s p (S.Tail n c) (block .bytes) .0 a .1))
     all-given p _ k (at-number _ v n c l a rest) =
@@ -92,28 +92,28 @@ module _ (f : ℕ → Rule) (s : List ℕ) where
     further : {p n q : ℕ} {a : Answer Val} → GroupReads (f p) s p a n q → (p < q) × Start s q
     further k = (omega (arith, k .next, long (k .stands)), rw (k .next) (next-start (k .stands)))
 
-    ends-by : (p : ℕ) → Start s p → ((q : ℕ) → p < q → Start s q → Reads f s q (from-here q)) → (r : Step) → StepRow (f p) s p r → Reads f s p (from-here p)
+    ends-by : (p : ℕ) → Start s p → ((q : ℕ) → p < q → Start s q → Gives f s q (from-here q)) → (r : Step) → StepRow (f p) s p r → Gives f s p (from-here p)
     ends-by p k ih (S.Finished c) row = rw (no-group-at-end p (row .1)) (at-end p c (row-steps (f p) s p (S.Finished c) row))
     ends-by p k ih (S.Tail n c) row = rw (no-group-in-tail p (row .1)) (at-tail p n c (row-steps (f p) s p (S.Tail n c) row))
     ends-by p k ih (S.Refused why) row = absurd (no-refusal p k why row)
     ends-by p k ih (S.Number v n c) row =
         let q = c .place .0 in
         let b = further (row .1) in
-        subst (Reads f s p) (one-given p (n .0) q (gives (valueOf v)) (from-here q) (row .1) (λ j. refl))
+        subst (Gives f s p) (one-given p (n .0) q (gives (valueOf v)) (from-here q) (row .1) (λ j. refl))
         (at-number p v n c (from-here q) (row-steps (f p) s p (S.Number v n c) row) (ih q (b .0) (b .1)))
     ends-by p k ih (S.Gap why n c) row =
         let q = c .place .0 in
         let b = further (row .1) in
-        subst (Reads f s p) (one-given p (n .0) q (refused (numberOf why)) (from-here q) (row .1) (λ j. refl))
+        subst (Gives f s p) (one-given p (n .0) q (refused (numberOf why)) (from-here q) (row .1) (λ j. refl))
         (at-gap p why n c (from-here q) (row-steps (f p) s p (S.Gap why n c) row) (ih q (b .0) (b .1)))
 
-    ends : (n p : ℕ) → length s - p < n → Start s p → Reads f s p (from-here p)
+    ends : (n p : ℕ) → length s - p < n → Start s p → Gives f s p (from-here p)
     ends zero p h k = absurd (omega arith)
     ends (suc n) p h k =
         let found = row-found (f p) s p (block .bytes) in
         ends-by p k (λ q l j. ends n q (omega (arith, l, j .here)) j) (found .0) (found .1)
 
-    pub exactly : (p : ℕ) (l : List (ℕ × ℕ × Answer Val)) → Start s p → Reads f s p l ↔ (l ≡ told f (placed p (cut (drop p s) .groups)))
+    pub exactly : (p : ℕ) (l : List (ℕ × ℕ × Answer Val)) → Start s p → Gives f s p l ↔ (l ≡ told f (placed p (cut (drop p s) .groups)))
     exactly p l k = (all-given p l k, λ e. rw e (ends (suc (length s - p)) p (omega arith) k))
 
 -- the same groups, said in another way
@@ -123,7 +123,7 @@ as-groups f e w = (λ x. w .0 x ∙ ap (told f) (sym e), λ q. w .1 (q ∙ ap (t
 front-start : (s : List ℕ) → Start s 0
 front-start s = record { here = omega arith; behind = inl refl }
 
-pub reads-all : (f : ℕ → Rule) (s : List ℕ) → Block s → (l : List (ℕ × ℕ × Answer Val)) → Reads f s 0 l → l ≡ told f (listed s)
+pub reads-all : (f : ℕ → Rule) (s : List ℕ) → Block s → (l : List (ℕ × ℕ × Answer Val)) → Gives f s 0 l → l ≡ told f (listed s)
 reads-all f s block l r = exactly f s block 0 l (front-start s) .0 r
 
 pub reader-from : ReaderFrom

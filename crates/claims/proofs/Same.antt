@@ -19,7 +19,7 @@ use Rattle.blocks.specs.declared.Value.the-variants as N
 use Rattle.blocks.specs.declared.SetDown.{SetDown}
 use Rattle.blocks.specs.declared.SetDown.the-variants as D
 use Rattle.listing.specs.Listing as I
-use Rattle.listing.specs.Listing.{Stage, top, at, ended, Coming, line, over}
+use Rattle.listing.specs.Listing.{Stage, Coming}
 use Rattle.listing.specs.Promise.{stageOf, meaning as meaningNext}
 use Rattle.listing.specs.declared.Listing.{Listing}
 use Rattle.listing.specs.declared.Listing.the-variants as G
@@ -123,9 +123,9 @@ pub same-next : (r r′ : Next) → meaningNext r ≡ meaningNext r′ → r ≡
 same-next = same-by meaningNext back-next is
   where
     listing : Stage → Listing
-    listing top = G.Top
-    listing (at p) = G.At (record { place = record { 0 = p } })
-    listing ended = G.Ended
+    listing I.top = G.Top
+    listing (I.at p) = G.At (record { place = record { 0 = p } })
+    listing I.ended = G.Ended
 
     listing-is : (g : Listing) → listing (stageOf g) ≡ g
     listing-is G.Top = refl
@@ -133,8 +133,8 @@ same-next = same-by meaningNext back-next is
     listing-is G.Ended = refl
 
     back-next : Coming ℕ → Next
-    back-next (line n g) = X.Line (record { 0 = n }) (listing g)
-    back-next over = X.Ended
+    back-next (I.line n g) = X.Line (record { 0 = n }) (listing g)
+    back-next I.over = X.Ended
     back-next (I.refuses k) = X.Refused (refusalOf k)
 
     is : (r : Next) → back-next (meaningNext r) ≡ r

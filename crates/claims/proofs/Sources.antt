@@ -23,7 +23,7 @@ use Rattle.claims.specs.Readers.{loop64}
 use Rattle.claims.specs.Source.{spec-parse-more, spec-parse, spec-serialize-within, spec-serialize-helper}
 use Rattle.claims.specs.Claims.{SpecParse}
 use Rattle.claims.proofs.Same.{apart}
-use Rattle.claims.proofs.Laws.{laws}
+use Rattle.claims.proofs.Laws.{reading-of}
 
 serialize-within : (n v : ℕ) → v ≤ n → spec-serialize-within n v ≡ form v
 unfolding spec-serialize-within
@@ -112,9 +112,9 @@ parse-form rest (byte {m} {g} p r) h =
 
 parse-read : (s : List ℕ) → Bytes s → (v n : ℕ) → (spec-parse s ≡ some (n, v)) ↔ (read u64 s 0 ≡ gives (v, n))
 parse-read s bytes v n = (
-  λ e. laws loop64 .reading .begun s 0 v n (parsed s bytes n v e),
+  λ e. reading-of loop64 .begun s 0 v n (parsed s bytes n v e),
   λ e.
-      let b : Parsed s n v = laws loop64 .reading .begins s 0 v n bytes e in
+      let b : Parsed s n v = reading-of loop64 .begins s 0 v n bytes e in
       ap spec-parse (b .begins) ∙ parse-form (b .rest) (form-spelled v) (b .of-width) ∙ ap (λ (m : ℕ). some (m, v)) (sym (b .count)),
 )
 

@@ -22,7 +22,7 @@ use Rattle.claims.specs.Readers.{Reader, loop64, recursive64, unsigned32
 use Rattle.claims.specs.Writers.{Laying}
 use Rattle.claims.specs.Claims.{LaysExactly, Writes, WritesLists, WriteRead, ReadWrite, MoreBehind, SomeByte}
 use Rattle.claims.proofs.Same.{same-written, apart, refused-same}
-use Rattle.claims.proofs.Laws.{Laws, read-number}
+use Rattle.claims.proofs.Laws.{reading-of, number-says, read-number}
 
 -- what is promised of a write, by its room
 module _ (bytes s : List ℕ) (at : ℕ) (r : Written) (out : List ℕ) (w : Lays bytes s at r out) where
@@ -92,13 +92,13 @@ writes-list ns before at r after w = (
         (λ h. apart (ap meaning (sym (fits (forms ns) before at r after l h .0) ∙ e)))
 
 -- 7
-pub write-read : (k : Reader) → Laws k → WriteRead k
-write-read k l v before at n after r of-width p q =
+pub write-read : (k : Reader) → WriteRead k
+write-read k v before at n after r of-width p q =
     let b = bytes-fit (form k v) before at (W.Bytes n) after (lays k v p) n refl in
     let e = fits (form k v) before at (W.Bytes n) after (lays k v p) (b .0) .1 in
     let rest = drop (at + length (form k v)) before in
     let t : length (take at before) ≡ at = length-take-le at before (omega (arith, b .0)) in
-    read-number k l after at r v n q (l .reading .begun after at v (n .0) (record {
+    read-number k after at r v n q (reading-of k .begun after at v (n .0) (record {
       here = rw (e, append-assoc, length-append, t) (omega arith);
       of-width = of-width;
       rest = rest;
@@ -106,9 +106,9 @@ write-read k l v before at n after r of-width p q =
       count = b .1;
     }))
 
-module _ (k : Reader) (l : Laws k) (s : List ℕ) (at : ℕ) (v : Value k) (n : Count) (bytes : Bytes s) (p : Promised k s at (number k v n)) where
+module _ (k : Reader) (s : List ℕ) (at : ℕ) (v : Value k) (n : Count) (bytes : Bytes s) (p : Promised k s at (number k v n)) where
   stands : Begins (form k) (OfWidth k) s at v (n .0)
-  stands = l .reading .begins s at v (n .0) bytes (l .number-says s at v n .0 p)
+  stands = reading-of k .begins s at v (n .0) bytes (number-says k s at v n .0 p)
 
   taken : at + length (form k v) ≤ length s
   taken =
@@ -131,16 +131,16 @@ module _ (k : Reader) (l : Laws k) (s : List ℕ) (at : ℕ) (v : Value k) (n : 
     count = stands .count;
   }
 
-pub read-write : (k : Reader) → Laws k → ReadWrite k
-read-write k l s at v n r after bytes p q =
-    let h = taken k l s at v n bytes p in
+pub read-write : (k : Reader) → ReadWrite k
+read-write k s at v n r after bytes p q =
+    let h = taken k s at v n bytes p in
     let f = fits (form k v) s at r after (lays k v q) h in
-    (f .0 ∙ ap (λ (m : ℕ). W.Bytes (record { 0 = m })) (sym (stands k l s at v n bytes p .count)), f .1 ∙ put-back k l s at v n bytes p)
+    (f .0 ∙ ap (λ (m : ℕ). W.Bytes (record { 0 = m })) (sym (stands k s at v n bytes p .count)), f .1 ∙ put-back k s at v n bytes p)
 
-pub more-behind : (k : Reader) → Laws k → MoreBehind k
-more-behind k l s more at v n r bytes p q =
-    read-number k l (s ++ more) at r v n q (l .reading .begun (s ++ more) at v (n .0) (behind k l s at v n bytes p more))
+pub more-behind : (k : Reader) → MoreBehind k
+more-behind k s more at v n r bytes p q =
+    read-number k (s ++ more) at r v n q (reading-of k .begun (s ++ more) at v (n .0) (behind k s at v n bytes p more))
 
-pub some-byte : (k : Reader) → Laws k → ((v : Value k) → 0 < length (form k v)) → SomeByte k
-some-byte k l f s at v n bytes p =
-    let c = stands k l s at v n bytes p .count in (omega (arith, f v), omega (arith, taken k l s at v n bytes p))
+pub some-byte : (k : Reader) → ((v : Value k) → 0 < length (form k v)) → SomeByte k
+some-byte k f s at v n bytes p =
+    let c = stands k s at v n bytes p .count in (omega (arith, f v), omega (arith, taken k s at v n bytes p))

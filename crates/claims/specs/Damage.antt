@@ -15,7 +15,7 @@ use Rattle.blocks.specs.declared.Rule.{Rule}
 use Rattle.blocks.specs.declared.Step.{Step}
 use Rattle.claims.specs.Blocks.{GroupAt}
 use Rattle.claims.specs.Listed.{ending, from, less}
-use Rattle.claims.specs.Readings.{Block, Reads}
+use Rattle.claims.specs.Readings.{Block, Gives}
 
 -- Every group that ends before the stretch stands and reads as before, by any rule, and no other group appears there.
 abbrev pub Front : Type 0
@@ -37,13 +37,13 @@ Back = (a x y b : List ℕ) (p p′ : ℕ) (g : List ℕ) → length (a ++ x) + 
 abbrev pub FrontRead : Type 0
 FrontRead = (a x y b : List ℕ) (f f′ : ℕ → Rule) (l l′ : List (ℕ × ℕ × Answer Val))
     → Block (a ++ x ++ b) → Block (a ++ y ++ b) → ((p : ℕ) → p < length a → f p ≡ f′ p)
-    → Reads f (a ++ x ++ b) 0 l → Reads f′ (a ++ y ++ b) 0 l′ → ending (length a) l ≡ ending (length a) l′
+    → Gives f (a ++ x ++ b) 0 l → Gives f′ (a ++ y ++ b) 0 l′ → ending (length a) l ≡ ending (length a) l′
 
 -- And what begins after the first byte below 128 past the stretch is the same list, with places counted from there.
 abbrev pub BackRead : Type 0
 BackRead = (a x y b : List ℕ) (f f′ : ℕ → Rule) (l l′ : List (ℕ × ℕ × Answer Val))
     → Block (a ++ x ++ b) → Block (a ++ y ++ b)
     → ((p p′ : ℕ) → length (a ++ x) + run b < p → p′ + length x ≡ p + length y → f p ≡ f′ p′)
-    → Reads f (a ++ x ++ b) 0 l → Reads f′ (a ++ y ++ b) 0 l′
+    → Gives f (a ++ x ++ b) 0 l → Gives f′ (a ++ y ++ b) 0 l′
     → less (length (a ++ x) + run b + 1) (from (length (a ++ x) + run b + 1) l)
     ≡ less (length (a ++ y) + run b + 1) (from (length (a ++ y) + run b + 1) l′)

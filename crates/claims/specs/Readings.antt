@@ -2,7 +2,7 @@
 --
 --   Block s          the bytes s are a block within the limit
 --   told f gs        the readings of the groups gs, each by the rule that f chooses for its place
---   Reads f s p l    from the place p on, steps by the rules that f chooses give the readings l, each with its place and its count of bytes,
+--   Gives f s p l    from the place p on, steps by the rules that f chooses give the readings l, each with its place and its count of bytes,
 --                    until one says Tail or Finished
 --   ReaderFrom       from a start, exactly the groups from there on
 --   ReaderSetDown    from any place, set down, exactly the groups that begin there or later
@@ -36,23 +36,23 @@ abbrev pub told : (ℕ → Rule) → List (ℕ × ℕ × List ℕ) → List (ℕ
 told f [] = []
 told f (k ∷ l) = (k .0, k .1, readBy (f (k .0)) (k .2)) ∷ told f l
 
-pub data Reads (f : ℕ → Rule) (s : List ℕ) : ℕ → List (ℕ × ℕ × Answer Val) → Type 0 where
-  at-end : (p : ℕ) (c : Cursor) → Steps (f p) s p (S.Finished c) → Reads f s p []
-  at-tail : (p : ℕ) (n : Count) (c : Cursor) → Steps (f p) s p (S.Tail n c) → Reads f s p []
+pub data Gives (f : ℕ → Rule) (s : List ℕ) : ℕ → List (ℕ × ℕ × Answer Val) → Type 0 where
+  at-end : (p : ℕ) (c : Cursor) → Steps (f p) s p (S.Finished c) → Gives f s p []
+  at-tail : (p : ℕ) (n : Count) (c : Cursor) → Steps (f p) s p (S.Tail n c) → Gives f s p []
   at-number : (p : ℕ) (v : Value) (n : Count) (c : Cursor) (l : List (ℕ × ℕ × Answer Val))
-      → Steps (f p) s p (S.Number v n c) → Reads f s (c .place .0) l → Reads f s p ((p, n .0, gives (valueOf v)) ∷ l)
+      → Steps (f p) s p (S.Number v n c) → Gives f s (c .place .0) l → Gives f s p ((p, n .0, gives (valueOf v)) ∷ l)
   at-gap : (p : ℕ) (why : Refusal) (n : Count) (c : Cursor) (l : List (ℕ × ℕ × Answer Val))
-      → Steps (f p) s p (S.Gap why n c) → Reads f s (c .place .0) l → Reads f s p ((p, n .0, refused (numberOf why)) ∷ l)
+      → Steps (f p) s p (S.Gap why n c) → Gives f s (c .place .0) l → Gives f s p ((p, n .0, refused (numberOf why)) ∷ l)
 
 -- From a start, a reader gives exactly the groups that begin there or later, in order, each once; every reading ends.
 abbrev pub ReaderFrom : Type 0
 ReaderFrom = (f : ℕ → Rule) (s : List ℕ) (p : ℕ) (l : List (ℕ × ℕ × Answer Val)) → Block s → Start s p
-    → Reads f s p l ↔ (l ≡ told f (from p (listed s)))
+    → Gives f s p l ↔ (l ≡ told f (from p (listed s)))
 
 -- Set down at any place, a reader gives exactly the groups that begin there or later; where there is no start, no group begins there or later.
 abbrev pub ReaderSetDown : Type 0
 ReaderSetDown = (f : ℕ → Rule) (s : List ℕ) (p : ℕ) → Bytes s →
-    ((c : Cursor) (l : List (ℕ × ℕ × Answer Val)) → SetsDown s p (D.At c) → Reads f s (c .place .0) l ↔ (l ≡ told f (from p (listed s))))
+    ((c : Cursor) (l : List (ℕ × ℕ × Answer Val)) → SetsDown s p (D.At c) → Gives f s (c .place .0) l ↔ (l ≡ told f (from p (listed s))))
     × (SetsDown s p (D.Refused NoStart) → from p (listed s) ≡ [])
 
 -- A copy whose front is lost: set down at its place 1, a reader gives exactly the original's groups that begin at k and that start or later,
@@ -60,4 +60,4 @@ ReaderSetDown = (f : ℕ → Rule) (s : List ℕ) (p : ℕ) → Bytes s →
 abbrev pub FrontLost : Type 0
 FrontLost = (f : ℕ → Rule) (original : List ℕ) (k : ℕ) (c : Cursor) (l : List (ℕ × ℕ × Answer Val)) → Bytes original
     → SetsDown (drop k original) 1 (D.At c)
-    → Reads f (drop k original) (c .place .0) l ↔ (l ≡ told f (less k (from (k + c .place .0) (listed original))))
+    → Gives f (drop k original) (c .place .0) l ↔ (l ≡ told f (less k (from (k + c .place .0) (listed original))))

@@ -1,17 +1,17 @@
 -- The rows of the table: which test of `reading` holds when, over any width, and what is then answered.
 use Prim.Native.Nat.{ℕ, _+_, _-_, _≤_, _<_}
-use mathlib.Core.Path.{_≡_}
+use mathlib.Core.Path.{_≡_, sym}
 use mathlib.Core.List.{List}
 use mathlib.Core.Bool.{true, false, not}
 use native.Mathlib.Omega.{arith}
 use borrow.Author.Tests.{lt-ltb, le-ltb, le-leb, lt-leb, eq-eqb, ne-eqb, leb-true, ltb-true, not-true}
 use lib.Dec.{leb, ltb, eqb}
 use lib.ListN.{length, getD, take, drop}
-use Rattle.words.specs.Answer.{gives, refused}
+use Rattle.words.specs.Answer.{Answer, gives, refused}
 use Rattle.words.proofs.Cases.{by-order, both-false, both-true}
 use Rattle.groups.specs.Group.{run}
 use Rattle.groups.proofs.Run.{run-within}
-use Rattle.groups.specs.Width.{Width, runsOut, tooLarge, tooMany, reading, read}
+use Rattle.groups.specs.Width.{Width, runsOut, tooLarge, tooMany, reading, read, Reads}
 
 module _ {A : Type 0} (w : Width A) where
   runs-out : (l : List ℕ) → run l ≡ length l → run l < w .most → runsOut w l ≡ true
@@ -105,3 +105,7 @@ module _ {A : Type 0} (w : Width A) where
   pub read-from : (s : List ℕ) (at : ℕ) → at ≤ length s → read w s at ≡ reading w (drop at s)
   unfolding read
   read-from s at h = rw (le-ltb (length s) at h)
+
+-- an answer keeps a reader's promise where the table says the same
+pub keeps : {A : Type 0} {w : Width A} {s : List ℕ} {at : ℕ} {a : Answer (A × ℕ)} → read w s at ≡ a → Reads w s at a
+keeps e = record { is = sym e }

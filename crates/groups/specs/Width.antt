@@ -6,9 +6,11 @@
 --   tooMany w l    row 3: the last byte isn't the first, and is one too many
 --   reading w l    the rows in their order; else the value and the count of the bytes through the first below 128
 --   read w s at    reading s from the place at on
+--   Reads w s at a what a reader of the width promises: a is its answer, and what the table says of s from the place at on
 use Prim.Native.Nat.{ℕ, _+_, _-_}
 use mathlib.Core.List.{List}
 use mathlib.Core.Bool.{Bool, not}
+use mathlib.Core.Path.{_≡_}
 use lib.Dec.{leb, ltb, eqb}
 use lib.ListN.{length, getD, take, drop}
 use Rattle.words.specs.Answer.{pick, both, Answer, gives, refused}
@@ -42,3 +44,6 @@ reading w l =
 
 unfoldable pub read : {A : Type 0} → Width A → List ℕ → ℕ → Answer (A × ℕ)
 read w s at = pick (ltb (length s) at) (refused 4) (reading w (drop at s))
+
+pub record Reads {A : Type 0} (w : Width A) (s : List ℕ) (at : ℕ) (a : Answer (A × ℕ)) : Type 0 where
+  pub is : a ≡ read w s at

@@ -2,36 +2,19 @@
 use Prim.Native.Nat.{ℕ, zero, suc, _+_, _-_, _*_, _%_, _^_, _<_}
 use mathlib.Core.Path.{_≡_, refl, sym, _∙_}
 use mathlib.Core.Bool.{Bool, true, false}
-use mathlib.Core.List.{List}
 use native.Mathlib.Nat.{mul-suc, mul-comm, pow-suc}
 use native.Mathlib.Omega.{arith}
 use borrow.Author.Tests.{lt-ltb, le-ltb, le-leb, lt-leb, eq-eqb, ne-eqb, ltb-false}
 use lib.Dec.{leb, ltb, eqb}
-use lib.IntN.{ℤ}
 use lib.Pow.{pow-add}
-use Rattle.words.specs.Answer.{gives, refused}
-use Rattle.words.specs.Refusal.{numberOf}
-use Rattle.words.specs.declared.Count.{Count}
-use Rattle.words.specs.declared.Refusal.{Refusal}
 use Rattle.words.proofs.Cases.{by-order}
 use Rattle.groups.specs.Form.{say}
-use Rattle.groups.specs.Width.{read}
 use Rattle.groups.proofs.Walks.{Sound}
 use Rattle.groups.proofs.Exact.{Spells}
 use Rattle.sleb128.specs.Signed.{i64}
-use Rattle.sleb128.specs.Promise.{ReadsI64}
-use Rattle.sleb128.specs.declared.ReadI64.the-variants.{Number, Refused}
 
 pub sound : Sound i64
 sound = record { some = omega arith; low = λ b h. rw (ne-eqb b 0 (λ e. omega arith), ne-eqb b 127 (λ e. omega arith)) }
-
--- an answer keeps the promise where the reading says the same
-module _ {s : List ℕ} {at : ℕ} where
-  pub refuses : (why : Refusal) → read i64 s at ≡ refused (numberOf why) → ReadsI64 s at (Refused why)
-  refuses why e = record { is = sym e }
-
-  pub numbers : {v : ℤ} {n : Count} → read i64 s at ≡ gives (v, n .0) → ReadsI64 s at (Number v n)
-  numbers e = record { is = sym e }
 
 -- at either sign, the last byte allowed at the greatest length says 0
 pub allowed : (s : Bool) (b : ℕ) → b < 128 → say s b < 64 → i64 .allowed b ≡ leb (say s b) 0

@@ -6,15 +6,13 @@
 --   LengthI64   the number takes r bytes
 use Prim.Native.Nat.{ℕ}
 use mathlib.Core.List.{List}
-use mathlib.Core.Path.{_≡_}
 use lib.IntN.{ℤ}
-use lib.ListN.{length}
 use Rattle.words.specs.Answer.{Answer, gives, refused}
 use Rattle.words.specs.Refusal.{numberOf}
 use Rattle.words.specs.declared.Count.{Count}
 use Rattle.words.specs.declared.Written.{Written}
-use Rattle.groups.specs.Width.{read}
-use Rattle.groups.specs.Laying.{Lays}
+use Rattle.groups.specs.Width.{Reads}
+use Rattle.groups.specs.Laying.{Lays, Takes}
 use Rattle.sleb128.specs.Signed.{form, i64}
 use Rattle.sleb128.specs.declared.ReadI64.{ReadI64}
 use Rattle.sleb128.specs.declared.ReadI64.the-variants.{Number, Refused}
@@ -23,11 +21,11 @@ abbrev pub meaning : ReadI64 → Answer (ℤ × ℕ)
 meaning (Number v n) = gives (v, n .0)
 meaning (Refused r) = refused (numberOf r)
 
-pub record ReadsI64 (s : List ℕ) (at : ℕ) (r : ReadI64) : Type 0 where
-  pub is : meaning r ≡ read i64 s at
+abbrev pub ReadsI64 : List ℕ → ℕ → ReadI64 → Type 0
+ReadsI64 s at r = Reads i64 s at (meaning r)
 
 abbrev pub WritesI64 : ℤ → List ℕ → ℕ → Written → List ℕ → Type 0
 WritesI64 v s at r out = Lays (form v) s at r out
 
-pub record LengthI64 (v : ℤ) (r : Count) : Type 0 where
-  pub is : r .0 ≡ length (form v)
+abbrev pub LengthI64 : ℤ → Count → Type 0
+LengthI64 v r = Takes (form v) r

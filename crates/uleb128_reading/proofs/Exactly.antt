@@ -10,14 +10,14 @@ use Rattle.words.specs.Refusal.{numberOf}
 use Rattle.words.specs.declared.Count.{Count}
 use Rattle.words.specs.declared.Refusal.{Refusal}
 use Rattle.groups.specs.Group.{Bytes, run}
-use Rattle.groups.specs.Width.{read}
+use Rattle.groups.specs.Width.{read, Reads}
 use Rattle.groups.specs.Begins.{Begins}
 use Rattle.groups.proofs.Run.{at-run}
 use Rattle.groups.proofs.Spelling.{said, said-digits, spelled-said}
 use Rattle.groups.proofs.Exact.{accepts, accepted, group-length}
 use Rattle.groups.proofs.Standing.{stands, standing}
 use Rattle.uleb128_writing.specs.Unsigned.{form, unsigned}
-use Rattle.uleb128_reading.specs.Promise.{meaning64, Reads}
+use Rattle.uleb128_reading.specs.Promise.{meaning64}
 use Rattle.uleb128_reading.specs.declared.ReadU64.{ReadU64}
 use Rattle.uleb128_reading.specs.declared.ReadU64.the-variants.{Number, Refused}
 use Rattle.uleb128_writing.proofs.Forms.{form-spelled}
@@ -54,7 +54,7 @@ module _ (most top : ℕ) (some : 0 < most) (low : top < 128) (s : List ℕ) (at
         count = b .count;
       })
 
-module _ {most top : ℕ} (some : 0 < most) (low : top < 128) {s : List ℕ} {at : ℕ} {r : ReadU64} (p : Reads (unsigned most top) s at r) where
+module _ {most top : ℕ} (some : 0 < most) (low : top < 128) {s : List ℕ} {at : ℕ} {r : ReadU64} (p : Reads (unsigned most top) s at (meaning64 r)) where
   -- what an answer's case says of the reading
   pub number-read : {v : ℕ} {n : Count} → r ≡ Number v n → read (unsigned most top) s at ≡ gives (v, n .0)
   number-read e = sym (p .is) ∙ ap meaning64 e

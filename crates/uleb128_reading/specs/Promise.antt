@@ -1,14 +1,12 @@
 -- What the functions of this crate promise.
 --
 --   meaning64, meaning32   what a reader's answer says: the number with its count of bytes, or the refusal's number
---   Reads w                reading at the width w, of at most 64 bits, from the place at on answers r
---   ReadsU64, ReadsU32     the same for each reader
+--   ReadsU64, ReadsU32     reading from the place at on answers r
 use Prim.Native.Nat.{ℕ}
 use mathlib.Core.List.{List}
-use mathlib.Core.Path.{_≡_}
 use Rattle.words.specs.Answer.{Answer, gives, refused}
 use Rattle.words.specs.Refusal.{numberOf}
-use Rattle.groups.specs.Width.{Width, read}
+use Rattle.groups.specs.Width.{Reads}
 use Rattle.uleb128_writing.specs.Unsigned.{u64, u32}
 use Rattle.uleb128_reading.specs.declared.ReadU64.{ReadU64}
 use Rattle.uleb128_reading.specs.declared.ReadU64.the-variants as R64
@@ -23,11 +21,8 @@ abbrev pub meaning32 : ReadU32 → Answer (ℕ × ℕ)
 meaning32 (R32.Number v n) = gives (v, n .0)
 meaning32 (R32.Refused r) = refused (numberOf r)
 
-pub record Reads (w : Width ℕ) (s : List ℕ) (at : ℕ) (r : ReadU64) : Type 0 where
-  pub is : meaning64 r ≡ read w s at
-
 abbrev pub ReadsU64 : List ℕ → ℕ → ReadU64 → Type 0
-ReadsU64 s at r = Reads u64 s at r
+ReadsU64 s at r = Reads u64 s at (meaning64 r)
 
-pub record ReadsU32 (s : List ℕ) (at : ℕ) (r : ReadU32) : Type 0 where
-  pub is : meaning32 r ≡ read u32 s at
+abbrev pub ReadsU32 : List ℕ → ℕ → ReadU32 → Type 0
+ReadsU32 s at r = Reads u32 s at (meaning32 r)

@@ -16,20 +16,19 @@ use Rattle.words.proofs.Cases.{by-order, both-false}
 use Rattle.words.specs.Refusal.{numberOf}
 use Rattle.words.specs.declared.Count.{Count}
 use Rattle.words.specs.declared.Refusal.{Refusal}
-use Rattle.words.specs.declared.Refusal.the-variants as Why
 use Rattle.groups.specs.Group.{Bytes, run, digits}
-use Rattle.groups.specs.Width.{runsOut, tooLarge, tooMany, reading, read}
+use Rattle.groups.specs.Width.{runsOut, tooLarge, tooMany, reading, read, Reads}
 use Rattle.groups.proofs.Run.{run-low, run-high, at-run, digits-take, pow-up}
-use Rattle.groups.proofs.Rows.{read-from, row-end, row-large, row-number}
+use Rattle.groups.proofs.Rows.{read-from, row-end, row-large, row-number, keeps}
 use Rattle.groups.proofs.Walks.{overrun}
 use Rattle.groups.proofs.Standing.{stands, count-within}
 use Rattle.uleb128_writing.specs.Unsigned.{unsigned}
 use Rattle.uleb128_recursive.specs.Inner.{ahead, Joins}
-use Rattle.uleb128_reading.specs.Promise.{meaning64, Reads}
+use Rattle.uleb128_reading.specs.Promise.{meaning64}
 use Rattle.uleb128_reading.specs.declared.ReadU64.{ReadU64}
 use Rattle.uleb128_reading.specs.declared.ReadU64.the-variants.{Number, Refused}
-use Rattle.uleb128_reading.proofs.Widths.{sound, Refuses, refuses, numbers}
-use Rattle.uleb128_reading.proofs.Exactly.{number-under}
+use Rattle.uleb128_reading.proofs.Widths.{sound}
+use Rattle.uleb128_reading.proofs.Exactly.{read-begins}
 
 -- a number that is one byte 0
 zero-alone : (l : List ℕ) → run l ≡ 0 → getD l (run l) 0 ≡ 0 → digits (take (run l + 1) l) ≡ 0
@@ -95,11 +94,11 @@ module _ (k top : ℕ) (some : 0 < k) (b : ℕ) (l : List ℕ) (hi : 128 ≤ b) 
       (ahead-pick b 3 (tooMany (unsigned k top) l) _))))
 
 module _ (left : ℕ) (some : 0 < left) (s : List ℕ) (at : ℕ) where
-  pub rest-end : at ≤ length s → length s ≤ at → Refuses (unsigned left 1) s at Why.End
+  pub rest-end : at ≤ length s → length s ≤ at → Reads (unsigned left 1) s at (refused 1)
   unfolding run
   rest-end h e =
       let n : drop at s ≡ [] = drop-of-length-le s e in
-      refuses Why.End (read-from (unsigned left 1) s at h ∙ rw n (row-end (unsigned left 1) [] refl some))
+      keeps (read-from (unsigned left 1) s at h ∙ rw n (row-end (unsigned left 1) [] refl some))
 
   module _ (there : at < length s) where
     bytes-from : drop at s ≡ getD s at 0 ∷ drop (suc at) s
@@ -109,31 +108,30 @@ module _ (left : ℕ) (some : 0 < left) (s : List ℕ) (at : ℕ) where
     reading-from = read-from (unsigned left 1) s at (omega arith) ∙ ap (reading (unsigned left 1)) bytes-from
 
     module _ (low : getD s at 0 < 128) where
-      pub rest-large : left < 2 → 1 < getD s at 0 → Refuses (unsigned left 1) s at Why.Overflow
+      pub rest-large : left < 2 → 1 < getD s at 0 → Reads (unsigned left 1) s at (refused 2)
       rest-large l h =
           let i : left - 1 ≡ 0 = omega arith in
-          refuses Why.Overflow
+          keeps
           (reading-from ∙ row-large (unsigned left 1) (getD s at 0 ∷ drop (suc at) s) (omega arith) (omega arith) (rw i (lt-leb (getD s at 0) 1 h)))
 
-      pub rest-last : (left < 2 → getD s at 0 ≤ 1) → Reads (unsigned left 1) s at (Number (getD s at 0) (record { 0 = 1 }))
+      pub rest-last : (left < 2 → getD s at 0 ≤ 1) → Reads (unsigned left 1) s at (gives (getD s at 0, 1))
       unfolding digits
       rest-last f =
           let z = run-low (getD s at 0) (drop (suc at) s) low in
-          numbers
+          keeps
           (reading-from ∙ row-number (unsigned left 1) (getD s at 0 ∷ drop (suc at) s) (rw z (omega arith)) (rw z (omega arith))
           (λ e. rw z (le-leb (getD s at 0) 1 (f (omega arith)))) (λ h. absurd (omega arith))
           ∙ rw (z, mod-eq-of-lt low, add-zero))
 
     module _ (high : 128 ≤ getD s at 0) where
-      pub rest-overrun : left < 2 → Refuses (unsigned left 1) s at Why.Overflow
+      pub rest-overrun : left < 2 → Reads (unsigned left 1) s at (refused 2)
       rest-overrun l =
-          refuses Why.Overflow
+          keeps
           (overrun (unsigned left 1) (sound left 1 some (omega arith)) s at (omega arith)
           (rw (bytes-from, run-high (getD s at 0) (drop (suc at) s) high) (omega arith)))
 
-      pub rest-ahead : 1 < left → {r r′ : ReadU64} → Reads (unsigned (left - 1) 1) s (at + 1) r → meaning64 r′ ≡ ahead (getD s at 0) (meaning64 r)
-          → Reads (unsigned left 1) s at r′
-      rest-ahead h {r} {r′} p e =
+      pub rest-ahead : 1 < left → {a a′ : Answer (ℕ × ℕ)} → Reads (unsigned (left - 1) 1) s (at + 1) a → a′ ≡ ahead (getD s at 0) a → Reads (unsigned left 1) s at a′
+      rest-ahead h p e =
           let rest = drop (suc at) s in
           let n : suc (left - 1) ≡ left = omega arith in
           let q : reading (unsigned left 1) (getD s at 0 ∷ rest) ≡ ahead (getD s at 0) (reading (unsigned (left - 1) 1) rest) =
@@ -143,14 +141,14 @@ module _ (left : ℕ) (some : 0 < left) (s : List ℕ) (at : ℕ) where
           read-from (unsigned (left - 1) 1) s (at + 1) (omega arith) ∙ ap (λ (i : ℕ). reading (unsigned (left - 1) 1) (drop i s)) (add-one at) in
           record { is = e ∙ ap (ahead (getD s at 0)) (p .is ∙ d) ∙ sym (reading-from ∙ q) }
 
-pub joins : (most : ℕ) (s : List ℕ) (at : ℕ) (r : ReadU64) → 0 < most → most < 10 → Bytes s → Reads (unsigned most 1) s at r → Joins (meaning64 r)
-joins most s at (Number v n) some few bytes p =
+pub joins : (most : ℕ) (s : List ℕ) (at : ℕ) (a : Answer (ℕ × ℕ)) → 0 < most → most < 10 → Bytes s → Reads (unsigned most 1) s at a → Joins a
+joins most s at (gives x) some few bytes p =
     let g = stands (unsigned most 1) s at (sound most 1 some (omega arith)) bytes (sym (p .is)) in
-    let u : v < 128 ^ (most - 1) * (1 + 1) = number-under some (omega arith) p bytes refl in
-    let c : n .0 ≤ most = count-within (unsigned most 1) (sound most 1 some (omega arith)) g in
+    let u : x .0 < 128 ^ (most - 1) * (1 + 1) = read-begins most 1 some (omega arith) s at bytes (sym (p .is)) .of-width in
+    let c : x .1 ≤ most = count-within (unsigned most 1) (sound most 1 some (omega arith)) g in
     let h : 128 ^ (most - 1) ≤ 128 ^ 8 = pow-up (most - 1) 8 (omega arith) in
     (omega arith, omega arith)
-joins most s at (Refused k) some few bytes p = tt
+joins most s at (refused k) some few bytes p = tt
 
 -- a byte in front of an answer, by its case
 module _ (b : ℕ) {r : ReadU64} where

@@ -4,11 +4,9 @@
 --   LengthU64, LengthU32   the number takes r bytes
 use Prim.Native.Nat.{ℕ}
 use mathlib.Core.List.{List}
-use mathlib.Core.Path.{_≡_}
-use lib.ListN.{length}
 use Rattle.words.specs.declared.Count.{Count}
 use Rattle.words.specs.declared.Written.{Written}
-use Rattle.groups.specs.Laying.{Lays}
+use Rattle.groups.specs.Laying.{Lays, Takes}
 use Rattle.uleb128_writing.specs.Unsigned.{form}
 
 abbrev pub WritesU64 : ℕ → List ℕ → ℕ → Written → List ℕ → Type 0
@@ -17,8 +15,8 @@ WritesU64 v s at r out = Lays (form v) s at r out
 abbrev pub WritesU32 : ℕ → List ℕ → ℕ → Written → List ℕ → Type 0
 WritesU32 v s at r out = Lays (form v) s at r out
 
-pub record LengthU64 (v : ℕ) (r : Count) : Type 0 where
-  pub is : r .0 ≡ length (form v)
+abbrev pub LengthU64 : ℕ → Count → Type 0
+LengthU64 v r = Takes (form v) r
 
 abbrev pub LengthU32 : ℕ → Count → Type 0
-LengthU32 v r = LengthU64 v r
+LengthU32 v r = Takes (form v) r

@@ -2,11 +2,10 @@
 use native.Mathlib.Omega.{arith}
 use borrow.Author.Needs.{needs}
 use denote.Ref.{now}
-use Rattle.words.specs.declared.Refusal.the-variants as Why
-use Rattle.groups.proofs.Rows.{read-past}
+use Rattle.groups.proofs.Rows.{read-past, keeps}
 use Rattle.groups.proofs.Walks.{told, Closing, closed-below, open-short, overrun}
 use Rattle.sleb128.specs.Signed.{i64}
-use Rattle.sleb128.proofs.Widths.{sound, refuses}
+use Rattle.sleb128.proofs.Widths.{sound}
 use Rattle.sleb128.proofs.ClosedGroups.{closes-above, closes-below, reads-above, reads-below}
 use Rattle.sleb128.proofs.read_i64.Statement.{statement}
 use Rattle.sleb128.proofs.read_i64.Tie as tie
@@ -54,17 +53,17 @@ closed-requires-2 : tie.Need-closed-requires-2
 closed-requires-2 c κs = closes-below (closing (c .before .before)) (c .if1 .left)
 
 returns-2 : tie.Need-returns-2
-returns-2 c = refuses Why.Place (read-past i64 _ _ (told _ _ (c .before .before .walk .ensures) (c .enum-told .given .1)))
+returns-2 c = keeps (read-past i64 _ _ (told _ _ (c .before .before .walk .ensures) (c .enum-told .given .1)))
 
 returns-3 : tie.Need-returns-3
 returns-3 c =
     let q = told _ _ (c .before .before .walk .ensures) (c .enum-told2 .given .1) in
-    refuses Why.End (open-short i64 sound _ _ q (q .few))
+    keeps (open-short i64 sound _ _ q (q .few))
 
 returns-4 : tie.Need-returns-4
 returns-4 c =
     let q = told _ _ (c .before .before .walk .ensures) (c .enum-told3 .given .1) in
-    refuses Why.Overflow (overrun i64 sound _ _ (q .here) (q .many))
+    keeps (overrun i64 sound _ _ (q .here) (q .many))
 
 returns-5 : tie.Need-returns-5
 returns-5 c = reads-below (closing (c .before .before .before)) (c .before .if1 .left) (c .closed2 .ensures)

@@ -1,7 +1,7 @@
 -- `uleb128_reading::read_u32` meets its promise: a reading at the width of 32 bits, whose numbers fit a `u32`.
 use native.Mathlib.Omega.{arith}
 use borrow.Author.Needs.{needs}
-use Rattle.uleb128_reading.proofs.Widths.{refuses32, numbers32}
+use Rattle.groups.proofs.Rows.{keeps}
 use Rattle.uleb128_reading.proofs.Exactly.{number-read, refusal-read, number-under}
 use Rattle.uleb128_reading.proofs.read_u32.Statement.{statement}
 use Rattle.uleb128_reading.proofs.read_u32.Tie as tie
@@ -24,10 +24,10 @@ enum-known-refusal : tie.Need-enum-known-refusal
 enum-known-refusal c = search needs
 
 returns : tie.Need-returns
-returns c = numbers32 (number-read (omega arith) (omega arith) (c .before .before .before .read-width .ensures) (c .before .v .given .1))
+returns c = keeps (number-read (omega arith) (omega arith) (c .before .before .before .read-width .ensures) (c .before .v .given .1))
 
 returns-2 : tie.Need-returns-2
-returns-2 c = refuses32 _ (refusal-read (omega arith) (omega arith) (c .before .before .before .read-width .ensures) (c .before .refusal .given .1))
+returns-2 c = keeps (refusal-read (omega arith) (omega arith) (c .before .before .before .read-width .ensures) (c .before .refusal .given .1))
 
 pub read-u32-spec : {M : Type 1} → statement M
 read-u32-spec =

@@ -1,14 +1,12 @@
 -- `uleb128_recursive::read_u64_rec` meets its promise: a start past the end, and else what `read_rest` reads of at most ten bytes.
 use borrow.Author.Needs.{needs}
-use Rattle.words.specs.declared.Refusal.the-variants as Why
-use Rattle.groups.proofs.Rows.{read-past}
+use Rattle.groups.proofs.Rows.{read-past, keeps}
 use Rattle.uleb128_writing.specs.Unsigned.{u64}
-use Rattle.uleb128_reading.proofs.Widths.{refuses}
 use Rattle.uleb128_recursive.proofs.read_u64_rec.Statement.{statement}
 use Rattle.uleb128_recursive.proofs.read_u64_rec.Tie as tie
 
 returns : tie.Need-returns
-returns c = refuses Why.Place (read-past u64 _ _ (c .if1 .taken))
+returns c = keeps (read-past u64 _ _ (c .if1 .taken))
 
 read-rest-requires : tie.Need-read-rest-requires
 read-rest-requires c κs = search needs
