@@ -6,7 +6,6 @@ use lists::ReadList;
 use words::Place;
 use words::Written;
 ghost use Prim.Native.Nat.{_*_, _≤_};
-ghost use lib.ListN.{length};
 
 // The most numbers of an answer slice, and what each is before it is filled.
 pub(crate) const SLICE: usize = 8192;

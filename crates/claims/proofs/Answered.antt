@@ -14,11 +14,11 @@ use Rattle.words.proofs.Cases.{by-order}
 use Rattle.groups.specs.Form.{groups}
 use Rattle.groups.specs.Laying.{Lays}
 use Rattle.groups.specs.Promise.{walked}
-use Rattle.groups.proofs.Storing.{no-room, lays}
+use Rattle.groups.proofs.Layings.{no-room, lays}
 use Rattle.uleb128_writing.specs.Unsigned as unsigned
 use Rattle.sleb128.specs.Signed as signed
-use Rattle.lists.specs.Lists.{list-limit, forms}
-use Rattle.lists.specs.Promise.{WritesList}
+use Rattle.lists_writing.specs.Lists.{list-limit, forms}
+use Rattle.lists_writing.specs.Promise.{WritesList}
 use Rattle.turns.specs.Turns.{turnOf}
 use Rattle.listing.specs.Promise.{stageOf, asked, fronted}
 use Rattle.claims.specs.Readers.{Reader, loop64, recursive64, unsigned32, signed64, Value, Reply, number, refuse, Promised, width, form}

@@ -25,8 +25,8 @@ use Rattle.blocks.specs.Block.{settingDown}
 use Rattle.blocks.specs.Promise.{SetsDown}
 use Rattle.blocks.specs.declared.Cursor.{Cursor}
 use Rattle.blocks.specs.declared.SetDown.the-variants as D
-use Rattle.lists.specs.Lists.{forms}
-use Rattle.lists.specs.Promise.{WritesList}
+use Rattle.lists_writing.specs.Lists.{forms}
+use Rattle.lists_writing.specs.Promise.{WritesList}
 use Rattle.claims.specs.Readers.{Reader, loop64, recursive64, unsigned32, signed64, number, Promised, width}
 use Rattle.claims.specs.Writers.{Laying}
 use Rattle.claims.specs.Blocks.{GroupAt}

@@ -15,9 +15,10 @@ use Rattle.groups.specs.Group.{run}
 use Rattle.groups.specs.Width.{reading}
 use Rattle.groups.proofs.Standing.{reading-count}
 use Rattle.uleb128_writing.specs.Unsigned.{form, u64}
-use Rattle.lists.specs.Lists.{list-limit, joined, numbers, strict, filled, forms}
+use Rattle.lists_writing.specs.Lists.{list-limit, forms}
+use Rattle.lists.specs.Strict.{joined, numbers, strict, filled}
 use Rattle.lists.proofs.Fronts.{numbers-group, numbers-none}
-use Rattle.lists.specs.Promise.{WritesList}
+use Rattle.lists_writing.specs.Promise.{WritesList}
 use Rattle.lists.specs.declared.ReadList.the-variants as L
 use Rattle.claims.specs.Readers.{loop64}
 use Rattle.claims.specs.Claims.{ListBack}

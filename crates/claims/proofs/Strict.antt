@@ -14,7 +14,7 @@ use Rattle.words.proofs.Cases.{by-order}
 use Rattle.groups.specs.Group.{Bytes, High, Group}
 use Rattle.uleb128_writing.specs.Unsigned.{u64}
 use Rattle.blocks.specs.Block.{block-limit}
-use Rattle.lists.specs.Lists.{numbers, strict, filled}
+use Rattle.lists.specs.Strict.{numbers, strict, filled}
 use Rattle.lists.specs.Promise.{ReadsStrict}
 use Rattle.lists.specs.declared.ReadList.{ReadList}
 use Rattle.lists.specs.declared.ReadList.the-variants as L

@@ -16,8 +16,8 @@ use Rattle.words.proofs.Cases.{by-order}
 use Rattle.groups.specs.Begins.{Begins}
 use Rattle.groups.specs.Group.{Bytes}
 use Rattle.groups.specs.Laying.{writing, laid, Lays}
-use Rattle.lists.specs.Lists.{list-limit, forms}
-use Rattle.lists.specs.Promise.{WritesList}
+use Rattle.lists_writing.specs.Lists.{list-limit, forms}
+use Rattle.lists_writing.specs.Promise.{WritesList}
 use Rattle.claims.specs.Readers.{Reader, loop64, recursive64, unsigned32, signed64, Value, number, Promised, form, OfWidth}
 use Rattle.claims.specs.Writers.{Laying}
 use Rattle.claims.specs.Claims.{LaysExactly, Writes, WritesLists, WriteRead, ReadWrite, MoreBehind, SomeByte}

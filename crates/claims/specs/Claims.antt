@@ -25,9 +25,10 @@ use Rattle.words.specs.declared.Written.{Written}
 use Rattle.words.specs.declared.Written.the-variants as W
 use Rattle.groups.specs.Begins.{Begins}
 use Rattle.groups.specs.Group.{Bytes, Group, digits}
-use Rattle.groups.specs.Promise.{Walks, Stores}
+use Rattle.groups.specs.Promise.{Walks}
+use Rattle.groups_writing.specs.Promise.{Stores}
 use Rattle.groups.specs.Width.{reading, read, tooMany}
-use Rattle.groups.specs.declared.reading.Walked.{Walked}
+use Rattle.groups.specs.declared.Walked.{Walked}
 use Rattle.uleb128_writing.specs.Unsigned as unsigned
 use Rattle.uleb128_reading.specs.Promise.{ReadsU64}
 use Rattle.uleb128_writing.specs.Promise.{WritesU64}
@@ -41,8 +42,9 @@ use Rattle.blocks.specs.Promise.{Steps, SetsDown}
 use Rattle.blocks.specs.declared.Rule.{Rule}
 use Rattle.blocks.specs.declared.SetDown.{SetDown}
 use Rattle.blocks.specs.declared.Step.{Step}
-use Rattle.lists.specs.Lists.{list-limit, forms}
-use Rattle.lists.specs.Promise.{ReadsStrict, WritesList}
+use Rattle.lists_writing.specs.Lists.{list-limit, forms}
+use Rattle.lists_writing.specs.Promise.{WritesList}
+use Rattle.lists.specs.Promise.{ReadsStrict}
 use Rattle.lists.specs.declared.ReadList.{ReadList}
 use Rattle.lists.specs.declared.ReadList.the-variants as L
 use Rattle.turns.specs.Turns.{Means}

@@ -16,7 +16,7 @@ use Rattle.words.specs.declared.Refusal.the-variants.{End, Overflow, NotShortes
 use Rattle.groups.specs.Group.{High, Group}
 use Rattle.uleb128_writing.specs.Unsigned.{u64}
 use Rattle.blocks.specs.Block.{block-limit}
-use Rattle.lists.specs.Lists.{forms}
+use Rattle.lists_writing.specs.Lists.{forms}
 use Rattle.lists.specs.declared.ReadList.{ReadList}
 use Rattle.lists.specs.declared.ReadList.the-variants as L
 use Rattle.claims.specs.Table.{GapRow}

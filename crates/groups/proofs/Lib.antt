@@ -2,7 +2,7 @@ pub mod Run
 pub mod Rows
 pub mod Walking
 pub mod Walks
-pub mod Storing
+pub mod Layings
 pub mod Spelling
 pub mod Exact
 pub mod Standing

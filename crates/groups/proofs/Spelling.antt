@@ -18,7 +18,7 @@ use Rattle.groups.specs.Group.{run, Group, one, more, digits}
 use Rattle.groups.specs.Form.{say, groups, spellings, spell}
 use Rattle.groups.specs.Laying.{Lays}
 use Rattle.groups.proofs.Run.{run-low, run-high, pow-up}
-use Rattle.groups.proofs.Storing.{say-below}
+use Rattle.groups.proofs.Layings.{say-below}
 
 unfoldable pub said : Bool → List ℕ → ℕ
 said below [] = 0

@@ -10,7 +10,7 @@ use lib.ListN.{length, getD, take, drop, length-drop}
 use lib.Seq.{getD-drop}
 use Rattle.groups.specs.Group.{run, digits}
 use Rattle.groups.specs.Promise.{walking, walked, Walks}
-use Rattle.groups.specs.declared.reading.Walked.the-variants.{Past, Open, Long, Closed}
+use Rattle.groups.specs.declared.Walked.the-variants.{Past, Open, Long, Closed}
 use Rattle.groups.proofs.Run.{run-within, run-more, run-ends, digits-take, digits-take-below, pow-up}
 
 -- what the loop has done: the high bytes passed, what they sum to, and what the next one weighs

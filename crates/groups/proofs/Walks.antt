@@ -17,8 +17,8 @@ use Rattle.words.proofs.Cases.{by-order}
 use Rattle.groups.specs.Group.{run, digits}
 use Rattle.groups.specs.Width.{Width, read}
 use Rattle.groups.specs.Promise.{walking, walked, Walks}
-use Rattle.groups.specs.declared.reading.Walked.{Walked}
-use Rattle.groups.specs.declared.reading.Walked.the-variants.{Past, Open, Long, Closed}
+use Rattle.groups.specs.declared.Walked.{Walked}
+use Rattle.groups.specs.declared.Walked.the-variants.{Past, Open, Long, Closed}
 use Rattle.groups.proofs.Run.{run-within, in-run, at-run, digits-take, digits-take-below, limit}
 use Rattle.groups.proofs.Rows.{row-end, row-large, row-many, row-number, read-from}
 

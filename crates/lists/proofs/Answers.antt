@@ -10,7 +10,7 @@ use Rattle.words.specs.Refusal.{numberOf}
 use Rattle.words.specs.declared.Refusal.{Refusal}
 use Rattle.words.specs.declared.Refusal.the-variants as Why
 use Rattle.blocks.specs.Block.{block-limit}
-use Rattle.lists.specs.Lists.{numbers, counted, filling, strict, filled}
+use Rattle.lists.specs.Strict.{numbers, counted, filling, strict, filled}
 use Rattle.lists.specs.Inner.{many, Room, Fits}
 use Rattle.lists.specs.Promise.{meaning, ReadsStrict}
 use Rattle.lists.specs.declared.ReadList.{ReadList}

@@ -9,7 +9,7 @@ use borrow.Author.Tests.{le-leb}
 use lib.ListN.{length, drop, set, length-set}
 use lib.Seq.{sets, sets-eq}
 use Rattle.words.specs.Answer.{Answer, gives, refused}
-use Rattle.lists.specs.Lists.{numbers, filling}
+use Rattle.lists.specs.Strict.{numbers, filling}
 use Rattle.lists.specs.Inner.{ahead, Room, Fits, Behind}
 use Rattle.lists.specs.Promise.{ReadsStrict}
 use Rattle.lists.specs.declared.Numbers.{Numbers}

@@ -10,7 +10,7 @@ use Rattle.groups.specs.Width.{reading}
 use Rattle.uleb128_writing.specs.Unsigned.{u64}
 use Rattle.blocks.specs.Cut.{cut}
 use Rattle.blocks.proofs.Cuts.{cut-group, cut-tail}
-use Rattle.lists.specs.Lists.{joined, numbersOf, numbers}
+use Rattle.lists.specs.Strict.{joined, numbersOf, numbers}
 
 pub numbers-group : (l : List ℕ) → run l < length l
     → numbers l ≡ joined (reading u64 (take (run l + 1) l)) (numbers (drop (run l + 1) l))

@@ -1,5 +1,3 @@
-pub mod Totals
-pub mod Layings
 pub mod Fronts
 pub mod Passing
 pub mod Scanning

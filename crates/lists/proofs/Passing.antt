@@ -16,7 +16,7 @@ use Rattle.uleb128_writing.specs.Unsigned.{u64}
 use Rattle.blocks.specs.Block.{block-limit, isStart, unsigned, signed, Stepped, number, gap, tail, finished, refuses, valued, says, stepping}
 use Rattle.blocks.specs.declared.Rule.the-variants.{Unsigned}
 use Rattle.blocks.proofs.Runs.{start-behind}
-use Rattle.lists.specs.Lists.{joined, numbers}
+use Rattle.lists.specs.Strict.{joined, numbers}
 use Rattle.lists.specs.Inner.{ahead, StartsBefore, Behind}
 use Rattle.lists.proofs.Fronts.{numbers-group, numbers-tail}
 

@@ -8,7 +8,7 @@ use lib.ListN.{length, drop, length-drop}
 use Rattle.words.specs.Answer.{Answer, gives, refused}
 use Rattle.blocks.specs.Block.{block-limit, isStart}
 use Rattle.blocks.proofs.Runs.{front-starts}
-use Rattle.lists.specs.Lists.{numbers}
+use Rattle.lists.specs.Strict.{numbers}
 use Rattle.lists.specs.Inner.{ahead, many, StartsBefore, Behind}
 use Rattle.lists.proofs.Fronts.{numbers-none}
 

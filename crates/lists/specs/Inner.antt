@@ -17,7 +17,7 @@ use lib.ListN.{length, drop}
 use Rattle.words.specs.Answer.{Answer, gives, refused}
 use Rattle.words.specs.Refusal.{numberOf}
 use Rattle.blocks.specs.Block.{block-limit, isStart}
-use Rattle.lists.specs.Lists.{numbers}
+use Rattle.lists.specs.Strict.{numbers}
 use Rattle.lists.specs.declared.Passed.{Passed}
 use Rattle.lists.specs.declared.Passed.the-variants as P
 use Rattle.lists.specs.declared.Scanned.{Scanned}

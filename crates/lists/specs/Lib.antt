@@ -1,3 +1,3 @@
-pub mod Lists
+pub mod Strict
 pub mod Promise
 pub mod Inner

@@ -2,17 +2,13 @@
 --
 --   meaning       what strict reading's answer says
 --   ReadsStrict   strict reading of the block s into the slice old answers r and leaves out
---   WritesList    writing the numbers ns at the place of s answers r and leaves out
 use Prim.Native.Nat.{ℕ}
 use mathlib.Core.List.{List}
 use mathlib.Core.Path.{_≡_}
-use lib.Dec.{ltb}
 use lib.ListN.{length}
-use Rattle.words.specs.Answer.{pick, Answer, gives, refused, meaning as written}
+use Rattle.words.specs.Answer.{Answer, gives, refused}
 use Rattle.words.specs.Refusal.{numberOf}
-use Rattle.words.specs.declared.Written.{Written}
-use Rattle.groups.specs.Laying.{writing, laid}
-use Rattle.lists.specs.Lists.{list-limit, strict, filled, forms}
+use Rattle.lists.specs.Strict.{strict, filled}
 use Rattle.lists.specs.declared.ReadList.{ReadList}
 use Rattle.lists.specs.declared.ReadList.the-variants.{Filled, Refused}
 
@@ -23,7 +19,3 @@ meaning (Refused r) = refused (numberOf r)
 pub record ReadsStrict (s old : List ℕ) (r : ReadList) (out : List ℕ) : Type 0 where
   pub answer : meaning r ≡ strict s (length old)
   pub leaves : out ≡ filled s old
-
-pub record WritesList (ns s : List ℕ) (at : ℕ) (r : Written) (out : List ℕ) : Type 0 where
-  pub answer : written r ≡ pick (ltb list-limit (length ns)) (refused 7) (writing s at (length (forms ns)))
-  pub leaves : out ≡ pick (ltb list-limit (length ns)) s (laid s at (forms ns))

@@ -3,8 +3,8 @@
 // With m for v, or for -v-1 below zero, the seven bits of each byte are those of m, or below zero 127 less those of m. The
 // form ends where what is left of m is below 64, so that the last byte's bit of weight 64 tells the sign.
 use groups::Walked;
-use groups::store;
 use groups::walk;
+use groups_writing::store;
 use uleb128_writing::length_u64;
 use words::Count;
 use words::Place;

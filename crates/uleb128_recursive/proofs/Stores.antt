@@ -8,7 +8,7 @@ use lib.ListN.{length, set}
 use lib.Seq.{sets, sets-eq, set-comm}
 use Rattle.words.specs.declared.Written.the-variants.{Bytes}
 use Rattle.groups.specs.Laying.{Lays}
-use Rattle.groups.proofs.Storing.{lays}
+use Rattle.groups.proofs.Layings.{lays}
 use Rattle.uleb128_writing.specs.Unsigned.{form}
 use Rattle.uleb128_recursive.specs.Inner.{WritesRest, Fits}
 use Rattle.uleb128_writing.proofs.Forms.{form-small, form-large, form-some}

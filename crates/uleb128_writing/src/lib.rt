@@ -3,7 +3,7 @@
 //
 // A byte is seven bits of value, lowest first; a byte of 128 or more says that another follows. Zero takes one byte.
 // It is a port of secure-foundations/vest, `leb128.rs` (NOTICE).
-use groups::store;
+use groups_writing::store;
 use words::Count;
 use words::Place;
 use words::Written;

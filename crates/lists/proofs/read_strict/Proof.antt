@@ -2,7 +2,7 @@
 use mathlib.Core.Path.{_≡_, ap, sym, _∙_}
 use borrow.Author.Needs.{needs}
 use Rattle.lists.specs.Inner.{many, meaningScan}
-use Rattle.lists.specs.Lists.{numbers}
+use Rattle.lists.specs.Strict.{numbers}
 use Rattle.lists.specs.declared.Scanned.{Scanned}
 use Rattle.lists.proofs.Answers.{block-too-long, block-faulty, list-full, list-fits}
 use Rattle.lists.proofs.read_strict.Statement.{statement}

@@ -1,7 +1,7 @@
 -- `uleb128_recursive::write_u64_rec` meets its promise: the room is known before `write_rest` stores the form.
 use native.Mathlib.Omega.{arith}
 use borrow.Author.Needs.{needs}
-use Rattle.groups.proofs.Storing.{no-room}
+use Rattle.groups.proofs.Layings.{no-room}
 use Rattle.uleb128_writing.proofs.Forms.{form-some}
 use Rattle.uleb128_recursive.proofs.Stores.{all-written}
 use Rattle.uleb128_recursive.proofs.write_u64_rec.Statement.{statement}

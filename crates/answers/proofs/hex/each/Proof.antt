@@ -1,6 +1,6 @@
 -- `answers::hex::each` is safe and ends: the measure is how many bytes are left. The buffer keeps its length.
 -- Assumes nothing.
-use Prim.Native.Nat.{_≤_, _-_}
+use Prim.Native.Nat.{_-_}
 use mathlib.Core.Path.{_≡_}
 use lib.ListN.{length}
 use borrow.Author.Needs.{needs}

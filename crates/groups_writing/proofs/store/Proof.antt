@@ -1,11 +1,12 @@
--- `groups::store` meets its promise: the loop holds `Stored`, and each way out is a law of `Storing`.
+-- `groups_writing::store` meets its promise: the loop holds `Stored`, and each way out is a law of `Storing`.
 use Prim.Native.Nat.{_-_, _%_}
 use lib.ListN.{length-set}
 use borrow.Author.Needs.{needs}
 use native.Mathlib.Omega.{arith}
-use Rattle.groups.proofs.Storing.{Stored, none-stored, one-stored, all-stored, no-room, none-laid, length-groups, say-below}
-use Rattle.groups.proofs.writing.store.Statement.{statement}
-use Rattle.groups.proofs.writing.store.Tie as tie
+use Rattle.groups.proofs.Layings.{no-room, length-groups, say-below}
+use Rattle.groups_writing.proofs.Storing.{Stored, none-stored, one-stored, all-stored, none-laid}
+use Rattle.groups_writing.proofs.store.Statement.{statement}
+use Rattle.groups_writing.proofs.store.Tie as tie
 
 abbrev Inv-loop : tie.InvT-loop
 Inv-loop m below count buffer₀ at n room more rest₀ i₀ buffer rest i = Stored below more m buffer₀ at buffer rest i

@@ -8,7 +8,7 @@ use lib.ListN.{length, getD, drop, length-append}
 use lib.Seq.{drop-cons, drop-length}
 use Rattle.uleb128_writing.specs.Unsigned.{form}
 use Rattle.uleb128_writing.proofs.Forms.{form-short}
-use Rattle.lists.specs.Lists.{forms}
+use Rattle.lists_writing.specs.Lists.{forms}
 
 pub forms-next : (ns : List ℕ) (i : ℕ) → i < length ns → forms (drop i ns) ≡ form (getD ns i 0) ++ forms (drop (i + 1) ns)
 unfolding forms

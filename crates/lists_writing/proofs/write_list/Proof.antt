@@ -1,10 +1,10 @@
--- `lists::write_list` meets its promise: a law of `Layings` for each answer.
+-- `lists_writing::write_list` meets its promise: a law of `Layings` for each answer.
 use native.Mathlib.Omega.{arith}
 use borrow.Author.Needs.{needs}
-use Rattle.groups.proofs.Storing.{no-room}
-use Rattle.lists.proofs.Layings.{list-too-long, list-laid}
-use Rattle.lists.proofs.write_list.Statement.{statement}
-use Rattle.lists.proofs.write_list.Tie as tie
+use Rattle.groups.proofs.Layings.{no-room}
+use Rattle.lists_writing.proofs.Layings.{list-too-long, list-laid}
+use Rattle.lists_writing.proofs.write_list.Statement.{statement}
+use Rattle.lists_writing.proofs.write_list.Tie as tie
 
 returns : tie.Need-returns
 returns c = list-too-long _ _ _ (c .if1 .taken)

@@ -1,22 +1,17 @@
--- Document 01, "Blocks, groups and tails": strict reading and list writing, over lists of numbers.
+-- Document 01, "Blocks, groups and tails": strict reading, over lists of numbers.
 --
---   list-limit       the most numbers of a list
 --   numbersOf gs t   the numbers of the groups gs, if each is one and there is no tail t; else the first fault: 2 or 3 in a group, 1 for a tail
 --   strict s room    the answer of strict reading of the block s into a slice of so many numbers: how many, or 7, the first fault, 5
 --   filled s old     the slice afterwards
---   forms ns         the forms of the numbers, one after another
 use Prim.Native.Nat.{ℕ}
 use mathlib.Core.List.{List, [], _∷_, _++_}
 use lib.Dec.{leb, ltb}
 use lib.ListN.{length, drop}
 use Rattle.words.specs.Answer.{pick, Answer, gives, refused}
 use Rattle.groups.specs.Width.{reading}
-use Rattle.uleb128_writing.specs.Unsigned.{form, u64}
+use Rattle.uleb128_writing.specs.Unsigned.{u64}
 use Rattle.blocks.specs.Block.{block-limit}
 use Rattle.blocks.specs.Cut.{cut}
-
-abbrev pub list-limit : ℕ
-list-limit = 4096
 
 abbrev pub joined : Answer (ℕ × ℕ) → Answer (List ℕ) → Answer (List ℕ)
 joined (refused k) a = refused k
@@ -44,7 +39,3 @@ strict s room = pick (ltb block-limit (length s)) (refused 7) (counted (numbers 
 
 unfoldable pub filled : List ℕ → List ℕ → List ℕ
 filled s old = pick (ltb block-limit (length s)) old (filling (numbers s) old)
-
-unfoldable pub forms : List ℕ → List ℕ
-forms [] = []
-forms (v ∷ ns) = form v ++ forms ns

@@ -1,13 +1,13 @@
--- `lists::lay` keeps what it promises inside the crate: the loop holds `LaidSoFar`, and each turn is a law of `Layings`.
+-- `lists_writing::lay` keeps what it promises inside the crate: the loop holds `LaidSoFar`, and each turn is a law of `Layings`.
 use Prim.Native.Nat.{_+_, _-_, _≤_}
 use mathlib.Core.Path.{refl}
 use native.Mathlib.Omega.{arith}
 use borrow.Author.Needs.{needs}
 use lib.ListN.{length, getD}
 use Rattle.uleb128_writing.specs.Unsigned.{form}
-use Rattle.lists.proofs.Layings.{LaidSoFar, laid-there, laid-count, no-refusal, none-laid, room-next, one-laid, all-laid}
-use Rattle.lists.proofs.lay.Statement.{statement}
-use Rattle.lists.proofs.lay.Tie as tie
+use Rattle.lists_writing.proofs.Layings.{LaidSoFar, laid-there, laid-count, no-refusal, none-laid, room-next, one-laid, all-laid}
+use Rattle.lists_writing.proofs.lay.Statement.{statement}
+use Rattle.lists_writing.proofs.lay.Tie as tie
 
 abbrev Inv-loop : tie.InvT-loop
 Inv-loop numbers buffer₀ at to₀ i₀ buffer to i = LaidSoFar numbers buffer₀ at buffer to i

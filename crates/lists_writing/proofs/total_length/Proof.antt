@@ -1,11 +1,11 @@
--- `lists::total_length` keeps what it promises inside the crate: the loop holds `Adding`, and each turn is a law of `Totals`.
+-- `lists_writing::total_length` keeps what it promises inside the crate: the loop holds `Adding`, and each turn is a law of `Totals`.
 use Prim.Native.Nat.{_+_, _-_}
 use native.Mathlib.Omega.{arith}
 use borrow.Author.Needs.{needs}
 use lib.ListN.{length}
-use Rattle.lists.proofs.Totals.{Adding, none-added, one-added, all-added}
-use Rattle.lists.proofs.total_length.Statement.{statement}
-use Rattle.lists.proofs.total_length.Tie as tie
+use Rattle.lists_writing.proofs.Totals.{Adding, none-added, one-added, all-added}
+use Rattle.lists_writing.proofs.total_length.Statement.{statement}
+use Rattle.lists_writing.proofs.total_length.Tie as tie
 
 abbrev Inv-loop : tie.InvT-loop
 Inv-loop numbers total₀ i₀ total i = Adding numbers total i

@@ -5,8 +5,8 @@ use words::Refusal;
 use words::Written;
 ghost use mathlib.Core.Path.{_≡_};
 ghost use Prim.Native.Nat.{_<_};
 ghost use Rattle.groups.specs.Form.{say};
-ghost use Rattle.groups.specs.Promise.{Stores};
+ghost use Rattle.groups_writing.specs.Promise.{Stores};
 
 // Seven bits as they are, or below zero their complement.
 fn said(bits: u8, below: bool) -> u8

@@ -1,7 +1,7 @@
--- `groups::said` keeps what it promises inside the crate.
+-- `groups_writing::said` keeps what it promises inside the crate.
 use borrow.Author.Needs.{needs}
-use Rattle.groups.proofs.writing.said.Statement.{statement}
-use Rattle.groups.proofs.writing.said.Tie as tie
+use Rattle.groups_writing.proofs.said.Statement.{statement}
+use Rattle.groups_writing.proofs.said.Tie as tie
 
 sub-result : tie.Need-sub-result
 sub-result c = search needs

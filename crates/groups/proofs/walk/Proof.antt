@@ -4,8 +4,8 @@ use lib.ListN.{length}
 use borrow.Author.Needs.{needs}
 use native.Mathlib.Omega.{arith}
 use Rattle.groups.proofs.Walking.{Going, past, starts, closes, overruns, goes-on, runs-dry, part-fits, weight-fits}
-use Rattle.groups.proofs.reading.walk.Statement.{statement}
-use Rattle.groups.proofs.reading.walk.Tie as tie
+use Rattle.groups.proofs.walk.Statement.{statement}
+use Rattle.groups.proofs.walk.Tie as tie
 
 abbrev Inv-loop : tie.InvT-loop
 Inv-loop bytes at place₀ high₀ sum₀ weight₀ place high sum weight = Going bytes at place high sum weight

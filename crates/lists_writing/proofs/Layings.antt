@@ -15,11 +15,11 @@ use Rattle.words.specs.declared.Refusal.the-variants.{TooLong}
 use Rattle.words.specs.declared.Written.{Written}
 use Rattle.words.specs.declared.Written.the-variants.{Bytes, Refused}
 use Rattle.groups.specs.Laying.{writing, laid, Lays}
-use Rattle.groups.proofs.Storing.{lays}
+use Rattle.groups.proofs.Layings.{lays}
 use Rattle.uleb128_writing.specs.Unsigned.{form}
-use Rattle.lists.specs.Lists.{list-limit, forms}
-use Rattle.lists.specs.Promise.{WritesList}
-use Rattle.lists.proofs.Totals.{forms-next, forms-end, length-next}
+use Rattle.lists_writing.specs.Lists.{list-limit, forms}
+use Rattle.lists_writing.specs.Promise.{WritesList}
+use Rattle.lists_writing.proofs.Totals.{forms-next, forms-end, length-next}
 
 sets-append : (a b l : List ℕ) (i : ℕ) → sets l i (a ++ b) ≡ sets (sets l i a) (i + length a) b
 sets-append [] b l i = rw (add-zero i)

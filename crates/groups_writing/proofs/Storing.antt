@@ -1,43 +1,22 @@
--- Laying bytes down: the two answers of every writer, and what the loop that stores a group holds.
-use Prim.Native.Nat.{ℕ, zero, suc, _+_, _-_, _/_, _%_, _≤_, _<_}
+-- What the loop that stores a group holds.
+use Prim.Native.Nat.{ℕ, suc, _+_, _-_, _/_, _%_, _≤_, _<_}
 use mathlib.Core.Path.{_≡_, refl, ap, sym, _∙_}
 use mathlib.Core.List.{List, [], _∷_, _++_}
-use mathlib.Core.Bool.{Bool, true, false}
+use mathlib.Core.Bool.{Bool}
 use native.Mathlib.Nat.{add-zero, sub-zero}
 use native.Mathlib.Numerals.{add-one}
 use native.Mathlib.Omega.{arith}
-use borrow.Author.Tests.{le-leb, lt-leb}
 use lib.ListN.{length, getD, take, drop, set, length-set}
 use lib.Seq.{paste, paste-zero, paste-suc, take-length, getD-drop, drop-drop}
-use Rattle.words.specs.Answer.{gives}
 use Rattle.words.specs.declared.Count.{Count}
-use Rattle.words.specs.declared.Written.the-variants.{Bytes, Refused}
-use Rattle.words.specs.declared.Refusal.the-variants.{NoRoom}
+use Rattle.words.specs.declared.Written.the-variants.{Bytes}
 use Rattle.groups.specs.Form.{say, groups}
-use Rattle.groups.specs.Laying.{writing, laid, Lays}
+use Rattle.groups.specs.Laying.{Lays}
+use Rattle.groups.proofs.Layings.{lays, length-groups}
 
-module _ (bytes s : List ℕ) (at : ℕ) where
-  pub no-room : length s < at + length bytes → Lays bytes s at (Refused NoRoom) s
-  unfolding writing laid
-  no-room h =
-      let t = lt-leb (at + length bytes) (length s) h in
-      record { answer = rw t; leaves = rw t }
-
-  pub lays : (n : Count) {out : List ℕ} → at + length bytes ≤ length s → n .0 ≡ length bytes
-      → out ≡ take at s ++ bytes ++ drop (at + length bytes) s → Lays bytes s at (Bytes n) out
-  unfolding writing laid
-  lays n {out} h e f =
-      let t = le-leb (at + length bytes) (length s) h in
-      record { answer = rw t (ap gives e); leaves = rw t f }
-
-  pasted-all : (n : ℕ) → n ≡ length bytes → paste s at bytes n ≡ take at s ++ bytes ++ drop (at + length bytes) s
-  pasted-all n e = rw (e, take-length bytes)
-
-pub length-groups : (below : Bool) (n m : ℕ) → length (groups below n m) ≡ n
-unfolding groups
-length-groups below zero m = refl
-length-groups below (suc zero) m = refl
-length-groups below (suc (suc n)) m = ap suc (length-groups below (suc n) (m / 128))
+-- all of the bytes pasted are the bytes laid down
+pasted-all : (bytes s : List ℕ) (at n : ℕ) → n ≡ length bytes → paste s at bytes n ≡ take at s ++ bytes ++ drop (at + length bytes) s
+pasted-all bytes s at n e = rw (e, take-length bytes)
 
 pub none-laid : (below : Bool) (m : ℕ) (s : List ℕ) (at : ℕ) (n : Count) → n .0 ≡ 0 → at ≤ length s
     → Lays (groups below (n .0) m) s at (Bytes n) s
@@ -45,10 +24,6 @@ none-laid below m s at n e h =
     let z : length (groups below (n .0) m) ≡ 0 = length-groups below (n .0) m ∙ e in
     lays (groups below (n .0) m) s at n (rw z (omega arith)) (e ∙ sym z)
     (paste-zero s at (groups below (n .0) m) ∙ pasted-all (groups below (n .0) m) s at 0 (sym z))
-
-pub say-below : (below : Bool) (d : ℕ) → d < 128 → say below d < 128
-say-below true d h = omega arith
-say-below false d h = h
 
 -- i bytes of more + 1 are stored, and what is left of the group spells rest
 pub record Stored (below : Bool) (more m : ℕ) (s : List ℕ) (at : ℕ) (out : List ℕ) (rest i : ℕ) : Type 0 where
