@@ -13,7 +13,7 @@ use Rattle.words.specs.declared.Count.{Count}
 use Rattle.words.specs.declared.Refusal.{Refusal}
 use Rattle.groups.specs.Begins.{Begins}
 use Rattle.groups.specs.Group.{Bytes}
-use Rattle.groups.specs.Width.{Width, read, Reads}
+use Rattle.groups.specs.Width.{Width, read, Due}
 use Rattle.groups.proofs.Rows.{keeps}
 use Rattle.groups.proofs.Walks.{Sound}
 use Rattle.groups.proofs.Standing.{Stands, standing}
@@ -71,7 +71,7 @@ reading-of unsigned32 = unsigned-reading 5 15 (omega arith) (omega arith)
 reading-of signed64 = signed-reading
 
 -- what the promise of a number and of a refusal says of the reading
-told : {A : Type 0} {w : Width A} {s : List ℕ} {at : ℕ} {a : Answer (A × ℕ)} → Reads w s at a ↔ (read w s at ≡ a)
+told : {A : Type 0} {b a : Answer A} → Due b a ↔ (b ≡ a)
 told = (λ p. sym (p .is), keeps)
 
 pub number-says : (k : Reader) (s : List ℕ) (at : ℕ) (v : Value k) (n : Count) → Promised k s at (number k v n) ↔ (read (width k) s at ≡ gives (v, n .0))
@@ -96,21 +96,21 @@ module _ (k : Reader) (s : List ℕ) (at : ℕ) where
 
   pub read-number : (r : Reply k) (v : Value k) (n : Count) → Promised k s at r → read (width k) s at ≡ gives (v, n .0) → r ≡ number k v n
   read-number r v n p e =
-      reply-told k r
-      (λ u m d.
-      let q : _≡_ {A = Answer (Value k × ℕ)} (gives (u, m .0)) (gives (v, n .0)) = sym (number-read r u m d p) ∙ e in
+      reply-told k s at r p
+      (λ u m d i.
+      let q : _≡_ {A = Answer (Value k × ℕ)} (gives (u, m .0)) (gives (v, n .0)) = sym i ∙ e in
       d ∙ ap (λ (x : Value k × ℕ). number k (x .0) (record { 0 = x .1 })) (same-both (given-value q) (given-count q)))
-      (λ why d. apart (sym e ∙ refusal-read r why d p))
+      (λ why d i. apart (sym e ∙ i))
 
   pub read-refusal : (r : Reply k) (why : Refusal) → Promised k s at r → read (width k) s at ≡ refused (numberOf why) → r ≡ refuse k why
   read-refusal r why p e =
-      reply-told k r (λ v n d. apart (sym (number-read r v n d p) ∙ e))
-      (λ a d. d ∙ ap (refuse k) (refused-same a why (sym (refusal-read r a d p) ∙ e)))
+      reply-told k s at r p (λ v n d i. apart (sym i ∙ e))
+      (λ a d i. d ∙ ap (refuse k) (refused-same a why (sym i ∙ e)))
 
   pub one-reply : (r r′ : Reply k) → Promised k s at r → Promised k s at r′ → r ≡ r′
   one-reply r r′ p q =
-      reply-told k r (λ v n e. e ∙ sym (read-number r′ v n q (number-read r v n e p)))
-      (λ why e. e ∙ sym (read-refusal r′ why q (refusal-read r why e p)))
+      reply-told k s at r p (λ v n e i. e ∙ sym (read-number r′ v n q i))
+      (λ why e i. e ∙ sym (read-refusal r′ why q i))
 
 -- 1
 pub accepts : (k : Reader) → Accepts k

@@ -1,6 +1,6 @@
 -- What a reader of numbers can say: a number, or a refusal that has a name.
 use Prim.Native.Nat.{ℕ, _+_}
-use mathlib.Core.Path.{_≡_, refl, _∙_}
+use mathlib.Core.Path.{_≡_, refl, sym, _∙_}
 use mathlib.Core.List.{List}
 use lib.ListN.{length, take, drop}
 use Rattle.words.specs.Answer.{gives, refused}
@@ -15,7 +15,7 @@ use Rattle.groups.proofs.Rows.{read-past, read-from}
 use Rattle.uleb128_reading.specs.declared.ReadU64.the-variants as R64
 use Rattle.uleb128_reading.specs.declared.ReadU32.the-variants as R32
 use Rattle.sleb128.specs.declared.ReadI64.the-variants as RI64
-use Rattle.claims.specs.Readers.{Reader, loop64, recursive64, unsigned32, signed64, Value, Reply, number, refuse}
+use Rattle.claims.specs.Readers.{Reader, loop64, recursive64, unsigned32, signed64, Value, Reply, number, refuse, Promised, width}
 
 module _ {A X : Type 0} (w : Width A) where
   pub reading-told : (g : List ℕ) → ((v : A) (n : ℕ) → reading w g ≡ gives (v, n) → X) → ((why : Refusal) → reading w g ≡ refused (numberOf why) → X) → X
@@ -30,13 +30,15 @@ module _ {A X : Type 0} (w : Width A) where
       by-order (length s) at (λ h. fault Place (read-past w s at h))
       (λ h. reading-told (drop at s) (λ v n e. value v n (read-from w s at h ∙ e)) (λ why e. fault why (read-from w s at h ∙ e)))
 
--- an answer of a reader is one of its numbers or of its refusals
-pub reply-told : {X : Type 0} (k : Reader) (r : Reply k) → ((v : Value k) (n : Count) → r ≡ number k v n → X) → ((why : Refusal) → r ≡ refuse k why → X) → X
-reply-told loop64 (R64.Number v n) value fault = value v n refl
-reply-told loop64 (R64.Refused why) value fault = fault why refl
-reply-told recursive64 (R64.Number v n) value fault = value v n refl
-reply-told recursive64 (R64.Refused why) value fault = fault why refl
-reply-told unsigned32 (R32.Number v n) value fault = value v n refl
-reply-told unsigned32 (R32.Refused why) value fault = fault why refl
-reply-told signed64 (RI64.Number v n) value fault = value v n refl
-reply-told signed64 (RI64.Refused why) value fault = fault why refl
+-- an answer that a reader promises is one of its numbers or of its refusals, and what is read says the same
+pub reply-told : {X : Type 0} (k : Reader) (s : List ℕ) (at : ℕ) (r : Reply k) → Promised k s at r
+    → ((v : Value k) (n : Count) → r ≡ number k v n → read (width k) s at ≡ gives (v, n .0) → X)
+    → ((why : Refusal) → r ≡ refuse k why → read (width k) s at ≡ refused (numberOf why) → X) → X
+reply-told loop64 s at (R64.Number v n) p value fault = value v n refl (sym (p .is))
+reply-told loop64 s at (R64.Refused why) p value fault = fault why refl (sym (p .is))
+reply-told recursive64 s at (R64.Number v n) p value fault = value v n refl (sym (p .is))
+reply-told recursive64 s at (R64.Refused why) p value fault = fault why refl (sym (p .is))
+reply-told unsigned32 s at (R32.Number v n) p value fault = value v n refl (sym (p .is))
+reply-told unsigned32 s at (R32.Refused why) p value fault = fault why refl (sym (p .is))
+reply-told signed64 s at (RI64.Number v n) p value fault = value v n refl (sym (p .is))
+reply-told signed64 s at (RI64.Refused why) p value fault = fault why refl (sym (p .is))

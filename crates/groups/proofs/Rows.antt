@@ -1,6 +1,6 @@
 -- The rows of the table: which test of `reading` holds when, over any width, and what is then answered.
 use Prim.Native.Nat.{ℕ, _+_, _-_, _≤_, _<_}
-use mathlib.Core.Path.{_≡_, sym}
+use mathlib.Core.Path.{_≡_, sym, _∙_}
 use mathlib.Core.List.{List}
 use mathlib.Core.Bool.{true, false, not}
 use native.Mathlib.Omega.{arith}
@@ -11,7 +11,7 @@ use Rattle.words.specs.Answer.{Answer, gives, refused}
 use Rattle.words.proofs.Cases.{by-order, both-false, both-true}
 use Rattle.groups.specs.Group.{run}
 use Rattle.groups.proofs.Run.{run-within}
-use Rattle.groups.specs.Width.{Width, runsOut, tooLarge, tooMany, reading, read, Reads}
+use Rattle.groups.specs.Width.{Width, runsOut, tooLarge, tooMany, reading, read, Due}
 
 module _ {A : Type 0} (w : Width A) where
   runs-out : (l : List ℕ) → run l ≡ length l → run l < w .most → runsOut w l ≡ true
@@ -106,6 +106,10 @@ module _ {A : Type 0} (w : Width A) where
   unfolding read
   read-from s at h = rw (le-ltb (length s) at h)
 
--- an answer keeps a reader's promise where the table says the same
-pub keeps : {A : Type 0} {w : Width A} {s : List ℕ} {at : ℕ} {a : Answer (A × ℕ)} → read w s at ≡ a → Reads w s at a
-keeps e = record { is = sym e }
+-- an answer keeps a promise where what is promised is the same, and so does one that keeps another promise of the same
+module _ {A : Type 0} {b : Answer A} where
+  pub keeps : {a : Answer A} → b ≡ a → Due b a
+  keeps e = record { is = sym e }
+
+  pub passes : {b′ a : Answer A} → b ≡ b′ → Due b′ a → Due b a
+  passes e p = record { is = p .is ∙ sym e }

@@ -6,7 +6,8 @@
 --   tooMany w l    row 3: the last byte isn't the first, and is one too many
 --   reading w l    the rows in their order; else the value and the count of the bytes through the first below 128
 --   read w s at    reading s from the place at on
---   Reads w s at a what a reader of the width promises: a is its answer, and what the table says of s from the place at on
+--   Due b a        the answer that is given, a, is the one that is due, b
+--   Reads w s at a what a reader of the width promises: a is what the table says of s from the place at on
 use Prim.Native.Nat.{ℕ, _+_, _-_}
 use mathlib.Core.List.{List}
 use mathlib.Core.Bool.{Bool, not}
@@ -45,5 +46,8 @@ reading w l =
 unfoldable pub read : {A : Type 0} → Width A → List ℕ → ℕ → Answer (A × ℕ)
 read w s at = pick (ltb (length s) at) (refused 4) (reading w (drop at s))
 
-pub record Reads {A : Type 0} (w : Width A) (s : List ℕ) (at : ℕ) (a : Answer (A × ℕ)) : Type 0 where
-  pub is : a ≡ read w s at
+pub record Due {A : Type 0} (b a : Answer A) : Type 0 where
+  pub is : a ≡ b
+
+abbrev pub Reads : {A : Type 0} → Width A → List ℕ → ℕ → Answer (A × ℕ) → Type 0
+Reads w s at a = Due (read w s at) a

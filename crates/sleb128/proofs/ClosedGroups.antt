@@ -10,16 +10,15 @@ use native.Mathlib.Nat.{add-zero, mul-zero, mul-sub, mul-comm, mul-add, mul-le-m
 use native.Mathlib.Numerals.{add-one}
 use native.Mathlib.Omega.{arith}
 use borrow.Author.Tests.{lt-ltb, le-ltb, le-leb, lt-leb}
-use lib.IntN.{ℤ, negsuc}
+use lib.IntN.{negsuc}
 use lib.ListN.{getD, take, drop}
 use lib.Seq.{length-take-le}
-use Rattle.words.specs.Answer.{Answer, gives}
+use Rattle.words.specs.Answer.{gives}
 use Rattle.words.proofs.Cases.{by-order}
 use Rattle.groups.specs.Group.{digits}
 use Rattle.groups.specs.Form.{say}
-use Rattle.groups.specs.Width.{read, Reads}
+use Rattle.groups.specs.Width.{read}
 use Rattle.groups.proofs.Run.{digits-take, digits-take-below}
-use Rattle.groups.proofs.Rows.{keeps}
 use Rattle.groups.proofs.Walks.{Closing, closed-large, closed-many, closed-number, closed-digits, closed-below}
 use Rattle.sleb128.specs.Signed.{signed, twos, i64}
 use Rattle.sleb128.specs.Inner.{closing, Closes}
@@ -148,10 +147,10 @@ module _ {s : List ℕ} {at sum weight high last : ℕ} (c : Closing s at sum we
   pub closes-below : 64 ≤ last → Closes (weight - 1 - sum) weight high (127 - last)
   closes-below h = record { under = omega (arith, closed-below c); weighs = c .weighs; few = c .few; small = omega arith }
 
-  pub reads-above : {a : Answer (ℤ × ℕ)} → last < 64 → a ≡ closing false sum weight high last → Reads i64 s at a
+  pub reads-above : last < 64 → read i64 s at ≡ closing false sum weight high last
   unfolding lowOf
-  reads-above h e = keeps (closed-reads false h ∙ sym e)
+  reads-above h = closed-reads false h
 
-  pub reads-below : {a : Answer (ℤ × ℕ)} → 64 ≤ last → a ≡ closing true (weight - 1 - sum) weight high (127 - last) → Reads i64 s at a
+  pub reads-below : 64 ≤ last → read i64 s at ≡ closing true (weight - 1 - sum) weight high (127 - last)
   unfolding lowOf
-  reads-below h e = keeps (closed-reads true (omega arith) ∙ sym e)
+  reads-below h = closed-reads true (omega arith)

@@ -13,6 +13,7 @@ use words::Written;
 ghost use mathlib.Core.Path.{_≡_};
 ghost use Prim.Native.Nat.{_<_, _^_};
 ghost use lib.Signed.{mag};
+ghost use Rattle.groups.specs.Width.{Due};
 ghost use Rattle.sleb128.specs.Signed.{below as is-below, signed as signed-of};
 ghost use Rattle.sleb128.specs.Inner.{closing, Closes};
 ghost use Rattle.sleb128.specs.Promise.{meaning, ReadsI64, WritesI64, LengthI64};
@@ -47,7 +48,7 @@ fn signed(m: u64, below: bool) -> i64
 // The number of a group whose high bytes say low and whose last byte says bits: below zero, both are complements.
 fn closed(low: u64, weight: u64, high: usize, bits: u8, below: bool) -> ReadI64
     requires { ⌜ Closes low weight high bits ⌝ }
-    ensures { λ r. ⌜ meaning r ≡ closing below low weight high bits ⌝ }
+    ensures { λ r. ⌜ Due (closing below low weight high bits) (meaning r) ⌝ }
 {
     let n = high + 1;
     if 0 < bits {

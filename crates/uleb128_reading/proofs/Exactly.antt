@@ -5,12 +5,10 @@ use mathlib.Core.List.{List}
 use mathlib.Core.Bool.{false}
 use native.Mathlib.Omega.{arith}
 use lib.ListN.{length}
-use Rattle.words.specs.Answer.{gives, refused}
-use Rattle.words.specs.Refusal.{numberOf}
+use Rattle.words.specs.Answer.{gives}
 use Rattle.words.specs.declared.Count.{Count}
-use Rattle.words.specs.declared.Refusal.{Refusal}
 use Rattle.groups.specs.Group.{Bytes, run}
-use Rattle.groups.specs.Width.{read, Reads}
+use Rattle.groups.specs.Width.{read}
 use Rattle.groups.specs.Begins.{Begins}
 use Rattle.groups.proofs.Run.{at-run}
 use Rattle.groups.proofs.Spelling.{said, said-digits, spelled-said}
@@ -19,7 +17,7 @@ use Rattle.groups.proofs.Standing.{stands, standing}
 use Rattle.uleb128_writing.specs.Unsigned.{form, unsigned}
 use Rattle.uleb128_reading.specs.Promise.{meaning64}
 use Rattle.uleb128_reading.specs.declared.ReadU64.{ReadU64}
-use Rattle.uleb128_reading.specs.declared.ReadU64.the-variants.{Number, Refused}
+use Rattle.uleb128_reading.specs.declared.ReadU64.the-variants.{Number}
 use Rattle.uleb128_writing.proofs.Forms.{form-spelled}
 use Rattle.uleb128_reading.proofs.Widths.{sound, spells}
 
@@ -54,13 +52,10 @@ module _ (most top : ℕ) (some : 0 < most) (low : top < 128) (s : List ℕ) (at
         count = b .count;
       })
 
-module _ {most top : ℕ} (some : 0 < most) (low : top < 128) {s : List ℕ} {at : ℕ} {r : ReadU64} (p : Reads (unsigned most top) s at (meaning64 r)) where
+module _ {most top : ℕ} (some : 0 < most) (low : top < 128) (s : List ℕ) (at : ℕ) {r : ReadU64} (p : meaning64 r ≡ read (unsigned most top) s at) where
   -- what an answer's case says of the reading
-  pub number-read : {v : ℕ} {n : Count} → r ≡ Number v n → read (unsigned most top) s at ≡ gives (v, n .0)
-  number-read e = sym (p .is) ∙ ap meaning64 e
-
-  pub refusal-read : {k : Refusal} → r ≡ Refused k → read (unsigned most top) s at ≡ refused (numberOf k)
-  refusal-read e = sym (p .is) ∙ ap meaning64 e
+  pub case-read : {q : ReadU64} → r ≡ q → read (unsigned most top) s at ≡ meaning64 q
+  case-read e = sym p ∙ ap meaning64 e
 
   pub number-under : Bytes s → {v : ℕ} {n : Count} → r ≡ Number v n → Under most top v
-  number-under bytes e = read-begins most top some low s at bytes (number-read e) .of-width
+  number-under bytes e = read-begins most top some low s at bytes (case-read e) .of-width

@@ -7,10 +7,9 @@ use words::Place;
 use words::Refusal;
 ghost use mathlib.Core.Path.{_≡_};
 ghost use Prim.Native.Nat.{_+_, _*_, _^_, _<_};
-ghost use Rattle.groups.specs.Width.{Reads};
-ghost use Rattle.uleb128_reading.specs.Inner.{Wide};
 ghost use Rattle.uleb128_writing.specs.Unsigned.{unsigned};
-ghost use Rattle.uleb128_reading.specs.Promise.{meaning64, ReadsU64, ReadsU32};
+ghost use Rattle.uleb128_reading.specs.Inner.{Wide};
+ghost use Rattle.uleb128_reading.specs.Promise.{Reads64, ReadsU64, ReadsU32};
 
 pub enum ReadU64 {
     Number(u64, Count),
@@ -34,7 +33,7 @@ fn number(sum: u64, weight: u64, high: usize, last: u8) -> ReadU64
 // A number of at most most bytes, whose last byte at that length is at most top.
 fn read_width(bytes: &[u8], start: Place, most: usize, top: u8) -> ReadU64
     requires { ⌜ Wide most top ⌝ }
-    ensures { λ r. ⌜ Reads (unsigned most top) (now (bytes .entry)) (start .0) (meaning64 r) ⌝ }
+    ensures { λ r. ⌜ Reads64 (unsigned most top) (now (bytes .entry)) (start .0) r ⌝ }
 {
     match walk(bytes, start) {
         Walked::Past => ReadU64::Refused(Refusal::Place),

@@ -13,9 +13,7 @@ use lib.ListN.{length, getD, take, drop, drop-of-length-le, List·getD-eq-defaul
 use lib.Seq.{drop-cons}
 use Rattle.words.specs.Answer.{pick, Answer, gives, refused}
 use Rattle.words.proofs.Cases.{by-order, both-false}
-use Rattle.words.specs.Refusal.{numberOf}
 use Rattle.words.specs.declared.Count.{Count}
-use Rattle.words.specs.declared.Refusal.{Refusal}
 use Rattle.groups.specs.Group.{Bytes, run, digits}
 use Rattle.groups.specs.Width.{runsOut, tooLarge, tooMany, reading, read, Reads}
 use Rattle.groups.proofs.Run.{run-low, run-high, at-run, digits-take, pow-up}
@@ -26,7 +24,7 @@ use Rattle.uleb128_writing.specs.Unsigned.{unsigned}
 use Rattle.uleb128_recursive.specs.Inner.{ahead, Joins}
 use Rattle.uleb128_reading.specs.Promise.{meaning64}
 use Rattle.uleb128_reading.specs.declared.ReadU64.{ReadU64}
-use Rattle.uleb128_reading.specs.declared.ReadU64.the-variants.{Number, Refused}
+use Rattle.uleb128_reading.specs.declared.ReadU64.the-variants.{Number}
 use Rattle.uleb128_reading.proofs.Widths.{sound}
 use Rattle.uleb128_reading.proofs.Exactly.{read-begins}
 
@@ -130,8 +128,8 @@ module _ (left : ℕ) (some : 0 < left) (s : List ℕ) (at : ℕ) where
           (overrun (unsigned left 1) (sound left 1 some (omega arith)) s at (omega arith)
           (rw (bytes-from, run-high (getD s at 0) (drop (suc at) s) high) (omega arith)))
 
-      pub rest-ahead : 1 < left → {a a′ : Answer (ℕ × ℕ)} → Reads (unsigned (left - 1) 1) s (at + 1) a → a′ ≡ ahead (getD s at 0) a → Reads (unsigned left 1) s at a′
-      rest-ahead h p e =
+      pub rest-ahead : 1 < left → {a : Answer (ℕ × ℕ)} → a ≡ read (unsigned (left - 1) 1) s (at + 1) → read (unsigned left 1) s at ≡ ahead (getD s at 0) a
+      rest-ahead h p =
           let rest = drop (suc at) s in
           let n : suc (left - 1) ≡ left = omega arith in
           let q : reading (unsigned left 1) (getD s at 0 ∷ rest) ≡ ahead (getD s at 0) (reading (unsigned (left - 1) 1) rest) =
@@ -139,12 +137,12 @@ module _ (left : ℕ) (some : 0 < left) (s : List ℕ) (at : ℕ) where
           (step (left - 1) 1 (omega arith) (getD s at 0) rest high) in
           let d : read (unsigned (left - 1) 1) s (at + 1) ≡ reading (unsigned (left - 1) 1) rest =
           read-from (unsigned (left - 1) 1) s (at + 1) (omega arith) ∙ ap (λ (i : ℕ). reading (unsigned (left - 1) 1) (drop i s)) (add-one at) in
-          record { is = e ∙ ap (ahead (getD s at 0)) (p .is ∙ d) ∙ sym (reading-from ∙ q) }
+          reading-from ∙ q ∙ ap (ahead (getD s at 0)) (sym (p ∙ d))
 
-pub joins : (most : ℕ) (s : List ℕ) (at : ℕ) (a : Answer (ℕ × ℕ)) → 0 < most → most < 10 → Bytes s → Reads (unsigned most 1) s at a → Joins a
+pub joins : (most : ℕ) (s : List ℕ) (at : ℕ) (a : Answer (ℕ × ℕ)) → 0 < most → most < 10 → Bytes s → a ≡ read (unsigned most 1) s at → Joins a
 joins most s at (gives x) some few bytes p =
-    let g = stands (unsigned most 1) s at (sound most 1 some (omega arith)) bytes (sym (p .is)) in
-    let u : x .0 < 128 ^ (most - 1) * (1 + 1) = read-begins most 1 some (omega arith) s at bytes (sym (p .is)) .of-width in
+    let g = stands (unsigned most 1) s at (sound most 1 some (omega arith)) bytes (sym p) in
+    let u : x .0 < 128 ^ (most - 1) * (1 + 1) = read-begins most 1 some (omega arith) s at bytes (sym p) .of-width in
     let c : x .1 ≤ most = count-within (unsigned most 1) (sound most 1 some (omega arith)) g in
     let h : 128 ^ (most - 1) ≤ 128 ^ 8 = pow-up (most - 1) 8 (omega arith) in
     (omega arith, omega arith)
@@ -156,11 +154,11 @@ module _ (b : ℕ) {r : ReadU64} where
     pub room : Joins (meaning64 r) → (v < 2 ^ 57) × (n .0 < 10)
     room j = rw e at j
 
-    pub ahead-zero : v < 1 → refused 3 ≡ ahead b (meaning64 r)
+    pub ahead-zero : v < 1 → ahead b (meaning64 r) ≡ refused 3
     ahead-zero z = rw (e, eq-eqb v 0 (omega arith))
 
-    pub ahead-number : 1 ≤ v → _≡_ {A = Answer (ℕ × ℕ)} (gives (b % 128 + 128 * v, n .0 + 1)) (ahead b (meaning64 r))
+    pub ahead-number : 1 ≤ v → ahead b (meaning64 r) ≡ gives (b % 128 + 128 * v, n .0 + 1)
     ahead-number z = rw (e, ne-eqb v 0 (λ q. omega arith))
 
-  pub ahead-refused : {k : Refusal} → r ≡ Refused k → refused (numberOf k) ≡ ahead b (meaning64 r)
-  ahead-refused e = rw e
+  pub ahead-case : {q : ReadU64} → r ≡ q → ahead b (meaning64 r) ≡ ahead b (meaning64 q)
+  ahead-case e = rw e

@@ -6,13 +6,12 @@ use Prim.Native.Nat.{ℕ}
 use mathlib.Core.List.{List}
 use Rattle.words.specs.declared.Written.{Written}
 use Rattle.groups.specs.Laying.{Lays}
-use Rattle.groups.specs.Width.{Reads}
 use Rattle.uleb128_writing.specs.Unsigned.{form, u64}
-use Rattle.uleb128_reading.specs.Promise.{meaning64}
+use Rattle.uleb128_reading.specs.Promise.{Reads64}
 use Rattle.uleb128_reading.specs.declared.ReadU64.{ReadU64}
 
 abbrev pub ReadsU64Rec : List ℕ → ℕ → ReadU64 → Type 0
-ReadsU64Rec s at r = Reads u64 s at (meaning64 r)
+ReadsU64Rec s at r = Reads64 u64 s at r
 
 abbrev pub WritesU64Rec : ℕ → List ℕ → ℕ → Written → List ℕ → Type 0
 WritesU64Rec v s at r out = Lays (form v) s at r out

@@ -6,19 +6,18 @@ use words::Count;
 use words::Place;
 use words::Refusal;
 use words::Written;
-ghost use mathlib.Core.Path.{_≡_};
 ghost use Prim.Native.Nat.{_<_, _≤_};
 ghost use lib.ListN.{length};
-ghost use Rattle.groups.specs.Width.{Reads};
+ghost use Rattle.groups.specs.Width.{Due};
 ghost use Rattle.uleb128_writing.specs.Unsigned.{unsigned};
-ghost use Rattle.uleb128_reading.specs.Promise.{meaning64};
+ghost use Rattle.uleb128_reading.specs.Promise.{meaning64, Reads64};
 ghost use Rattle.uleb128_recursive.specs.Promise.{ReadsU64Rec, WritesU64Rec};
 ghost use Rattle.uleb128_recursive.specs.Inner.{Joins, ahead, WritesRest, Fits};
 
 // A byte of 128 or more, in front of what was read behind it: no number is 0 behind another byte.
 fn behind(b: u8, read: ReadU64) -> ReadU64
     requires { ⌜ Joins (meaning64 read) ⌝ }
-    ensures { λ r. ⌜ meaning64 r ≡ ahead b (meaning64 read) ⌝ }
+    ensures { λ r. ⌜ Due (ahead b (meaning64 read)) (meaning64 r) ⌝ }
 {
     match read {
         ReadU64::Number(v, count) => {
@@ -39,7 +38,7 @@ fn behind(b: u8, read: ReadU64) -> ReadU64
 // The number at the place, of at most left bytes.
 fn read_rest(bytes: &[u8], at: usize, left: usize) -> ReadU64
     requires { ⌜ (at ≤ length (now bytes)) × (0 < left) × (left ≤ 10) ⌝ }
-    ensures { λ r. ⌜ Reads (unsigned left 1) (now (bytes .entry)) at (meaning64 r) ⌝ }
+    ensures { λ r. ⌜ Reads64 (unsigned left 1) (now (bytes .entry)) at r ⌝ }
 {
     if bytes.len() <= at {
         return ReadU64::Refused(Refusal::End);

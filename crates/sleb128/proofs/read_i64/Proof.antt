@@ -2,7 +2,7 @@
 use native.Mathlib.Omega.{arith}
 use borrow.Author.Needs.{needs}
 use denote.Ref.{now}
-use Rattle.groups.proofs.Rows.{read-past, keeps}
+use Rattle.groups.proofs.Rows.{read-past, keeps, passes}
 use Rattle.groups.proofs.Walks.{told, Closing, closed-below, open-short, overrun}
 use Rattle.sleb128.specs.Signed.{i64}
 use Rattle.sleb128.proofs.Widths.{sound}
@@ -38,7 +38,7 @@ closed-requires : tie.Need-closed-requires
 closed-requires c κs = closes-above (closing (c .before .before)) (c .if1 .taken)
 
 returns : tie.Need-returns
-returns c = reads-above (closing (c .before .before .before)) (c .before .if1 .taken) (c .closed .ensures)
+returns c = passes (reads-above (closing (c .before .before .before)) (c .before .if1 .taken)) (c .closed .ensures)
 
 sub-up : tie.Need-sub-up
 sub-up c = omega (arith, closed-below (closing (c .before .before)))
@@ -66,7 +66,7 @@ returns-4 c =
     keeps (overrun i64 sound _ _ (q .here) (q .many))
 
 returns-5 : tie.Need-returns-5
-returns-5 c = reads-below (closing (c .before .before .before)) (c .before .if1 .left) (c .closed2 .ensures)
+returns-5 c = passes (reads-below (closing (c .before .before .before)) (c .before .if1 .left)) (c .closed2 .ensures)
 
 pub read-i64-spec : {M : Type 1} → statement M
 read-i64-spec =

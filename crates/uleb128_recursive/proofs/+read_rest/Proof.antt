@@ -5,6 +5,7 @@ use native.Mathlib.Omega.{arith}
 use borrow.Author.Needs.{needs}
 use borrow.Fn.Kinds.{In}
 use borrow.Fn.PlainCycle.{Measures, is, falls, and}
+use Rattle.groups.proofs.Rows.{passes}
 use Rattle.uleb128_recursive.proofs.Steps.{rest-end, rest-last, rest-large, rest-overrun, rest-ahead, joins}
 use Rattle.uleb128_recursive.proofs.read_rest.Reads as read-rest
 use Rattle.uleb128_recursive.proofs.read_rest.Kinds as read-rest-kinds
@@ -56,12 +57,13 @@ module _ (t : ℕ) where
   behind-requires : lts.Need-behind-requires (env t) (given t) read-rest.Post
   behind-requires c κs =
       joins _ _ _ _ (search needs) (search needs)
-      (λ i. c .before .before .before .before .before .shared-slice-known .given i .fits) (c .read-rest .ensures)
+      (λ i. c .before .before .before .before .before .shared-slice-known .given i .fits) (c .read-rest .ensures .is)
 
   returns-6 : lts.Need-returns-6 (env t) (given t) read-rest.Post
   returns-6 c =
-      rest-ahead _ (search needs) _ _ (search needs) (c .before .before .before .if2 .left) (search needs)
-      (c .before .read-rest .ensures) (c .behind .ensures)
+      passes
+      (rest-ahead _ (search needs) _ _ (search needs) (c .before .before .before .if2 .left) (search needs) (c .before .read-rest .ensures .is))
+      (c .behind .ensures)
 
   closed : {M : Type 1} → lts.Closed (env t) (given t) read-rest.Post M
   closed =

@@ -1,7 +1,8 @@
 -- `uleb128_recursive::behind` keeps what it promises inside the crate: a law of `Steps` for each case of what was read.
 use native.Mathlib.Omega.{arith}
 use borrow.Author.Needs.{needs}
-use Rattle.uleb128_recursive.proofs.Steps.{room, ahead-zero, ahead-number, ahead-refused}
+use Rattle.groups.proofs.Rows.{keeps}
+use Rattle.uleb128_recursive.proofs.Steps.{room, ahead-zero, ahead-number, ahead-case}
 use Rattle.uleb128_recursive.proofs.behind.Statement.{statement}
 use Rattle.uleb128_recursive.proofs.behind.Tie as tie
 
@@ -9,7 +10,7 @@ enum-known-read : tie.Need-enum-known-read
 enum-known-read c = search needs
 
 returns : tie.Need-returns
-returns c = ahead-zero _ (c .before .before .read .given .1) (c .if1 .taken)
+returns c = keeps (ahead-zero _ (c .before .before .read .given .1) (c .if1 .taken))
 
 cast-low : tie.Need-cast-low
 cast-low c = search needs
@@ -27,10 +28,10 @@ enum-known-read-2 : tie.Need-enum-known-read-2
 enum-known-read-2 c = search needs
 
 returns-2 : tie.Need-returns-2
-returns-2 c = ahead-number _ (c .before .before .read .given .1) (c .if1 .left)
+returns-2 c = keeps (ahead-number _ (c .before .before .read .given .1) (c .if1 .left))
 
 returns-3 : tie.Need-returns-3
-returns-3 c = ahead-refused _ (c .before .read2 .given .1)
+returns-3 c = keeps (ahead-case _ (c .before .read2 .given .1))
 
 pub behind-spec : {M : Type 1} → statement M
 behind-spec =
