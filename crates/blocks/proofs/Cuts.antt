@@ -19,7 +19,7 @@ use lib.Seq.{drop-length, drop-drop}
 use Rattle.words.proofs.Cases.{by-order}
 use Rattle.groups.specs.Group.{run}
 use Rattle.groups.proofs.Run.{run-low, run-high, run-within}
-use Rattle.blocks.specs.Cut.{Cut, alone, infront, cut}
+use Rattle.blocks.specs.GroupsAndTail.{Cut, alone, infront, cut}
 
 pub cut-low : (b : ℕ) (l : List ℕ) → b < 128 → cut (b ∷ l) ≡ alone b (cut l)
 unfolding cut

@@ -1,4 +1,4 @@
 pub mod Block
-pub mod Cut
+pub mod GroupsAndTail
 pub mod Promise
 pub mod Inner

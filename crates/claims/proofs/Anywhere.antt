@@ -11,7 +11,7 @@ use lib.Seq.{length-take-le, drop-drop, getD-drop}
 use Rattle.words.specs.declared.Refusal.the-variants.{NoStart}
 use Rattle.words.proofs.Cases.{by-order}
 use Rattle.groups.specs.Group.{run}
-use Rattle.blocks.specs.Cut.{cut}
+use Rattle.blocks.specs.GroupsAndTail.{cut}
 use Rattle.blocks.specs.declared.SetDown.the-variants as D
 use Rattle.blocks.proofs.Cuts.{nothing-left}
 use Rattle.claims.specs.Listed.{placed, listed, from, less}

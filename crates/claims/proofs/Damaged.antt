@@ -12,7 +12,7 @@ use Rattle.groups.specs.Group.{run}
 use Rattle.blocks.specs.Block.{Val, saysBy}
 use Rattle.blocks.specs.Promise.{meaning, Steps}
 use Rattle.blocks.specs.declared.Step.{Step}
-use Rattle.blocks.specs.Cut.{cut}
+use Rattle.blocks.specs.GroupsAndTail.{cut}
 use Rattle.blocks.proofs.Cuts.{total, all-bytes, Some, some-each}
 use Rattle.blocks.specs.declared.Rule.{Rule}
 use Rattle.claims.specs.Blocks.{GroupAt}

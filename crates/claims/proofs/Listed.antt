@@ -15,7 +15,7 @@ use lib.Seq.{length-take-le, drop-append-add, drop-drop, getD-drop}
 use Rattle.words.proofs.Cases.{by-order}
 use Rattle.groups.specs.Group.{run}
 use Rattle.groups.proofs.Run.{run-within, run-ends}
-use Rattle.blocks.specs.Cut.{cut}
+use Rattle.blocks.specs.GroupsAndTail.{cut}
 use Rattle.blocks.proofs.Cuts.{cut-group, cut-tail, cut-append, total, all-bytes, Longer, longer, tail-run, nothing-left}
 use Rattle.claims.specs.Blocks.{Start}
 use Rattle.claims.specs.Listed.{placed, listed, ending, from, less}

@@ -33,7 +33,7 @@ use Rattle.listing.proofs.Taking.{took, nothing-left}
 use Rattle.groups.specs.Group.{Bytes, run, digits}
 use Rattle.groups.specs.Width.{runsOut, tooLarge, tooMany, reading}
 use Rattle.texts.specs.Texts.{ascii, decimal, decimal-within}
-use Rattle.blocks.specs.Cut.{cut}
+use Rattle.blocks.specs.GroupsAndTail.{cut}
 use Rattle.listing.specs.Listing.{row, rows}
 use Rattle.claims.specs.Listing.{Given, none, more, Lists, FrontEnough, Document}
 

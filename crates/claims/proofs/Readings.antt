@@ -20,7 +20,7 @@ use Rattle.groups.proofs.Exact.{group-length}
 use Rattle.groups.proofs.Run.{at-run, run-within}
 use Rattle.blocks.specs.Block.{Val, readBy}
 use Rattle.blocks.specs.Promise.{valueOf}
-use Rattle.blocks.specs.Cut.{cut}
+use Rattle.blocks.specs.GroupsAndTail.{cut}
 use Rattle.blocks.specs.declared.Rule.{Rule}
 use Rattle.blocks.specs.declared.Step.{Step}
 use Rattle.blocks.specs.declared.Step.the-variants as S

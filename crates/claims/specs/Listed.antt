@@ -10,7 +10,7 @@ use mathlib.Core.List.{List, [], _∷_}
 use lib.Dec.{leb}
 use lib.ListN.{length}
 use Rattle.words.specs.Answer.{pick}
-use Rattle.blocks.specs.Cut.{cut}
+use Rattle.blocks.specs.GroupsAndTail.{cut}
 
 abbrev pub placed : ℕ → List (List ℕ) → List (ℕ × ℕ × List ℕ)
 placed p [] = []

@@ -22,7 +22,7 @@ use Rattle.groups.proofs.Run.{run-within, at-run}
 use Rattle.texts.specs.Texts.{ascii}
 use Rattle.uleb128_writing.specs.Unsigned.{u64}
 use Rattle.blocks.specs.Block.{block-limit, isStart, unsigned, valued, says}
-use Rattle.blocks.specs.Cut.{cut}
+use Rattle.blocks.specs.GroupsAndTail.{cut}
 use Rattle.blocks.specs.declared.Cursor.{Cursor}
 use Rattle.blocks.specs.declared.Rule.the-variants.{Unsigned}
 use Rattle.blocks.proofs.Runs.{front-starts, start-behind}

@@ -17,7 +17,7 @@ use Rattle.texts.specs.Texts.{ascii, decimal}
 use Rattle.uleb128_writing.specs.Unsigned.{u64}
 use Rattle.blocks.specs.Block.{block-limit, unsigned, signed, Stepped, number, gap, tail, finished, stepping}
 use Rattle.blocks.specs.Block as B
-use Rattle.blocks.specs.Cut.{cut}
+use Rattle.blocks.specs.GroupsAndTail.{cut}
 use Rattle.blocks.specs.declared.Rule.the-variants.{Unsigned}
 
 unfoldable pub row : ℕ → List ℕ → ℕ → List ℕ

@@ -11,7 +11,7 @@ use Rattle.words.specs.Answer.{pick, Answer, gives, refused}
 use Rattle.groups.specs.Width.{reading}
 use Rattle.uleb128_writing.specs.Unsigned.{u64}
 use Rattle.blocks.specs.Block.{block-limit}
-use Rattle.blocks.specs.Cut.{cut}
+use Rattle.blocks.specs.GroupsAndTail.{cut}
 
 abbrev pub joined : Answer (ℕ × ℕ) → Answer (List ℕ) → Answer (List ℕ)
 joined (refused k) a = refused k

@@ -5,8 +5,7 @@ use mathlib.Core.List.{List}
 use mathlib.Core.Bool.{false}
 use native.Mathlib.Omega.{arith}
 use lib.ListN.{length}
-use Rattle.words.specs.Answer.{gives}
-use Rattle.words.specs.declared.Count.{Count}
+use Rattle.words.specs.Answer.{Answer, gives}
 use Rattle.groups.specs.Group.{Bytes, run}
 use Rattle.groups.specs.Width.{read}
 use Rattle.groups.specs.Begins.{Begins}
@@ -17,7 +16,6 @@ use Rattle.groups.proofs.Standing.{stands, standing}
 use Rattle.uleb128_writing.specs.Unsigned.{form, unsigned}
 use Rattle.uleb128_reading.specs.Promise.{meaning64}
 use Rattle.uleb128_reading.specs.declared.ReadU64.{ReadU64}
-use Rattle.uleb128_reading.specs.declared.ReadU64.the-variants.{Number}
 use Rattle.uleb128_writing.proofs.Forms.{form-spelled}
 use Rattle.uleb128_reading.proofs.Widths.{sound, spells}
 
@@ -52,10 +50,6 @@ module _ (most top : ℕ) (some : 0 < most) (low : top < 128) (s : List ℕ) (at
         count = b .count;
       })
 
-module _ {most top : ℕ} (some : 0 < most) (low : top < 128) (s : List ℕ) (at : ℕ) {r : ReadU64} (p : meaning64 r ≡ read (unsigned most top) s at) where
-  -- what an answer's case says of the reading
-  pub case-read : {q : ReadU64} → r ≡ q → read (unsigned most top) s at ≡ meaning64 q
-  case-read e = sym p ∙ ap meaning64 e
-
-  pub number-under : Bytes s → {v : ℕ} {n : Count} → r ≡ Number v n → Under most top v
-  number-under bytes e = read-begins most top some low s at bytes (case-read e) .of-width
+-- what is read is what an answer's case says
+pub case-read : {a : Answer (ℕ × ℕ)} {r q : ReadU64} → meaning64 r ≡ a → r ≡ q → a ≡ meaning64 q
+case-read p e = sym p ∙ ap meaning64 e

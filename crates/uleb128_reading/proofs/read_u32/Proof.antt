@@ -2,7 +2,7 @@
 use native.Mathlib.Omega.{arith}
 use borrow.Author.Needs.{needs}
 use Rattle.groups.proofs.Rows.{keeps}
-use Rattle.uleb128_reading.proofs.Exactly.{case-read, number-under}
+use Rattle.uleb128_reading.proofs.Exactly.{case-read, read-begins}
 use Rattle.uleb128_reading.proofs.read_u32.Statement.{statement}
 use Rattle.uleb128_reading.proofs.read_u32.Tie as tie
 
@@ -16,18 +16,18 @@ cast-narrow : tie.Need-cast-narrow
 cast-narrow c =
     record {
       fits =
-          number-under (omega arith) (omega arith) _ _ (c .before .before .before .read-width .ensures .is)
-          (λ i. c .before .before .before .before .shared-slice-known .given i .fits) (c .before .v .given .1);
+          read-begins _ _ (omega arith) (omega arith) _ _ (λ i. c .before .before .before .before .shared-slice-known .given i .fits)
+          (case-read (c .before .before .before .read-width .ensures .is) (c .before .v .given .1)) .of-width;
     }
 
 enum-known-refusal : tie.Need-enum-known-refusal
 enum-known-refusal c = search needs
 
 returns : tie.Need-returns
-returns c = keeps (case-read (omega arith) (omega arith) _ _ (c .before .before .before .read-width .ensures .is) (c .before .v .given .1))
+returns c = keeps (case-read (c .before .before .before .read-width .ensures .is) (c .before .v .given .1))
 
 returns-2 : tie.Need-returns-2
-returns-2 c = keeps (case-read (omega arith) (omega arith) _ _ (c .before .before .before .read-width .ensures .is) (c .before .refusal .given .1))
+returns-2 c = keeps (case-read (c .before .before .before .read-width .ensures .is) (c .before .refusal .given .1))
 
 pub read-u32-spec : {M : Type 1} → statement M
 read-u32-spec =
