@@ -1,7 +1,7 @@
 -- Document 01: a block cut after each byte below 128 into its groups and its tail.
 --
 --   Cut     groups in their order, and what is behind the last of them
---   cut s   the block s, cut: each byte is put in front of what follows it
+--   cut s   the block s, cut: each byte is put in front of what follows it, as a group of its own (`alone`) or in the first group or the tail (`infront`)
 use Prim.Native.Nat.{ℕ}
 use mathlib.Core.List.{List, [], _∷_}
 use lib.Dec.{ltb}

@@ -1,5 +1,6 @@
 -- What the functions of this crate promise.
 --
+--   valueOf               the number that a step gives, by its rule
 --   meaning, meaningSet   what the answers of a step and of a set-down say
 --   Steps                 a step of a cursor at the place p of the block s, by the rule
 --   SetsDown              set-down at the place p of the block s

@@ -5,6 +5,7 @@
 --   TailAt s p      a tail begins at the start p
 --   GroupReads      a group at a place, its reading, its count of bytes and the place past it
 --   StepRow         the row of each answer of a step; StepRefused: of each refusal
+--   Least s p q     q is the least start at p or later
 --   SetDownRow      the row of each answer of a set-down; SetDownRefused: of each refusal
 --   TurnRow         the row of each meaning of a turn
 use Prim.Native.Nat.{ℕ, _+_, _-_, _≤_, _<_}

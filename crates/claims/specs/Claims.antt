@@ -1,11 +1,15 @@
 -- What is claimed: the demands of document 01, in its words and order, over the promises that the functions'
 -- `ensures` are. `Claims` has a field for each; proofs/All.antt has its one value, `all`. A list of bytes is `Bytes`: any slice is.
 --
---   Accepts, Refuses, Excludes, Exhausts       demand 2, readers
---   Writes                                     demand 2, writers
---   Shortest, Signed                           how a number is spelled
---   WriteRead, ReadWrite, MoreBehind, SomeByte round trips, and what the source calls prefix-secure and productive
---   Met, One                                   an answer meets each promise, and no second
+--   Accepts, Refuses, Excludes, Exhausts         demand 2, readers
+--   Writes, WritesLists (by LaysExactly)         demand 2, writers
+--   Shortest, Most, most-bytes, zero-of          how a number is spelled, in how many bytes, and zero
+--   TwosComplement, Within, SignedForm, OneTooMany   how a signed number is spelled
+--   WriteRead, ReadWrite, MoreBehind, SomeByte   round trips, and what the source calls prefix-secure and productive
+--   SpecParse                                    the source's own definition
+--   ReadGroup, ListBack                          when a group is a number; a list that was written, read back
+--   Met (by Both), One                           an answer meets each promise, and no second
+--   Claims                                       all of it
 use Prim.Native.Nat.{ℕ, _+_, _-_, _*_, _/_, _%_, _^_, _≤_, _<_}
 use mathlib.Core.Path.{_≡_}
 use mathlib.Core.List.{List, [], _∷_, _++_}

@@ -2,7 +2,7 @@
 --
 --   Reader       u64 by loop, u64 by recursion, u32, i64
 --   Value        its numbers
---   Reply        what it answers: a number with its count of bytes, or a refusal
+--   Reply        what it answers: a number with its count of bytes (`number`), or a refusal (`refuse`)
 --   Promised     what its function promises: the `ensures` of `read_u64`, `read_u64_rec`, `read_u32`, `read_i64`
 --   width, form  its row of document 01's table, and the shortest form of a number
 --   OfWidth      the numbers of the width

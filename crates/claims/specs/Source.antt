@@ -1,8 +1,9 @@
 -- `spec_parse` and `spec_serialize_helper` of the source (`leb128.rs`), ported as they stand, with division and remainder for its
 -- shifts and masks, and emptiness before the first byte. Numbers are those of `UInt`, u64.
 --
---   spec-parse               the count of bytes and the number, or none
---   spec-serialize-helper    the bytes of a number
+--   take-low-7-bits, is-high-8-bit-set, set-high-8-bit, n-bit-max-unsigned   the source's macros of these names
+--   spec-parse               the count of bytes and the number, or none; `spec-parse-more`: with a byte in front
+--   spec-serialize-helper    the bytes of a number; `spec-serialize-within`: the same, over a bound on how many there can be
 use Prim.Native.Nat.{ℕ, zero, suc, _+_, _-_, _*_, _/_, _%_, _^_}
 use mathlib.Core.List.{List, [], _∷_}
 use mathlib.Core.Bool.{Bool, true, false}

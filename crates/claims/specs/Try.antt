@@ -1,7 +1,8 @@
 -- Document 01, "Bytes to try": the rows marked *, as one table.
 --
 --   Rows w   each of these bytes, read at the width w from place 0 on, gets this answer
---   starred  the table
+--   rows64, rows32, rows-i64   the rows at each width
+--   Starred  the table
 use Prim.Native.Nat.{ℕ, _-_, _^_}
 use mathlib.Core.List.{List, [], _∷_, _++_}
 use mathlib.Core.Path.{_≡_}

@@ -3,7 +3,7 @@
 --
 --   say below d          seven bits, or below zero their complement
 --   groups below n m     n bytes that spell m
---   spell below small m  as many bytes as it takes until what is left is below small
+--   spell below small m  as many bytes as it takes until what is left is below small; `spellings`: the same, over a bound on how many there can be
 use Prim.Native.Nat.{ℕ, zero, suc, _+_, _-_, _/_, _%_}
 use mathlib.Core.List.{List, [], _∷_}
 use mathlib.Core.Bool.{Bool, true, false}

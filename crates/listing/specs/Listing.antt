@@ -1,12 +1,13 @@
 -- Document 01, "Bytes to try": the listing of a block, as bytes.
 --
 --   row p what v      the line `p what v`
---   groupRow p g      that of the group g at the place p: its number, or else its fault and its length
+--   fault k           the word for the fault of a group, 2 or 3
+--   groupRow p g      that of the group g at the place p: its number, or else its fault and its length; `rowOf`: from its reading
 --   rows p gs t       those of the groups gs and of the tail t, one after another, from the place p on
 --   text s            the whole listing of an input s: the header and the rows; above the limit the one line `refused 7`
 --   line-room         a buffer of so many bytes holds every line
 --   Stage             how far a listing has come: at its top, at a place of the block, or ended
---   Coming, next s g  what comes next: a line and the stage behind it, nothing, or a refusal
+--   Coming, next s g  what comes next: a line and the stage behind it, nothing, or a refusal; `lineOf`: from what a step says
 use Prim.Native.Nat.{ℕ, _+_}
 use mathlib.Core.List.{List, [], _∷_, _++_}
 use lib.Dec.{ltb, eqb}

@@ -1,8 +1,10 @@
 -- Document 01, "Blocks, groups and tails": strict reading, over lists of numbers.
 --
---   numbersOf gs t   the numbers of the groups gs, if each is one and there is no tail t; else the first fault: 2 or 3 in a group, 1 for a tail
---   strict s room    the answer of strict reading of the block s into a slice of so many numbers: how many, or 7, the first fault, 5
---   filled s old     the slice afterwards
+--   numbersOf gs t   the numbers of the groups gs, if each is one and there is no tail t; else the first fault: 2 or 3 in a group, 1 for a tail;
+--                    `joined` puts the first in front of the others, and `numbers s` is that of the block s
+--   strict s room    the answer of strict reading of the block s into a slice of so many numbers: how many, or 7, the first fault, 5;
+--                    `counted`: from the numbers
+--   filled s old     the slice afterwards; `filling`: from the numbers
 use Prim.Native.Nat.{ℕ}
 use mathlib.Core.List.{List, [], _∷_, _++_}
 use lib.Dec.{leb, ltb}

@@ -4,6 +4,7 @@
 --   signed b m   m, or -m-1 if b: the number whose magnitude `mag` is m
 --   twos k n     the value of the 7k bits of n in two's complement
 --   form v       the shortest form: seven bits a byte of v's two's complement, until the byte's bit of weight 64 tells the sign
+--   either       one of two tests holds
 --   i64          the width of 64 bits
 use Prim.Native.Nat.{ℕ, _*_, _-_, _%_, _^_}
 use mathlib.Core.List.{List}
