@@ -6,7 +6,7 @@ pub use uleb128_reading::ReadU64;
 pub use uleb128_reading::read_u32;
 pub use uleb128_reading::read_u64;
 pub use uleb128_recursive::read_u64_rec;
-pub use uleb128_recursive::write_u64_rec;
+pub use uleb128_recursive_writing::write_u64_rec;
 pub use uleb128_writing::length_u32;
 pub use uleb128_writing::length_u64;
 pub use uleb128_writing::write_u32;

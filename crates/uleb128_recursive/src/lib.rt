@@ -1,18 +1,16 @@
-// Unsigned 64 bits, by recursion: after the source's `leb128-rec.rs`. Reading goes on at the next place, writing at
-// v div 128, and the bytes still allowed fall at each call.
+// Unsigned 64 bits, read by recursion: after the source's `leb128-rec.rs`. Reading goes on at the next place, and the bytes still
+// allowed fall at each call.
 use uleb128_reading::ReadU64;
-use uleb128_writing::length_u64;
 use words::Count;
 use words::Place;
 use words::Refusal;
-use words::Written;
 ghost use Prim.Native.Nat.{_<_, _≤_};
 ghost use lib.ListN.{length};
 ghost use Rattle.groups.specs.Width.{Due};
 ghost use Rattle.uleb128_writing.specs.Unsigned.{unsigned};
 ghost use Rattle.uleb128_reading.specs.Promise.{meaning64, Reads64};
-ghost use Rattle.uleb128_recursive.specs.Promise.{ReadsU64Rec, WritesU64Rec};
-ghost use Rattle.uleb128_recursive.specs.Inner.{Joins, ahead, WritesRest, Fits};
+ghost use Rattle.uleb128_recursive.specs.Promise.{ReadsU64Rec};
+ghost use Rattle.uleb128_recursive.specs.Inner.{Joins, ahead};
 
 // A byte of 128 or more, in front of what was read behind it: no number is 0 behind another byte.
 fn behind(b: u8, read: ReadU64) -> ReadU64
@@ -71,42 +69,4 @@ pub fn read_u64_rec(bytes: &[u8], start: Place) -> ReadU64
         return ReadU64::Refused(Refusal::Place);
     }
     read_rest(bytes, at, 10)
-}
-
-// Stores the number's form of at most left bytes, which fits, the last byte first, and answers how many bytes it has.
-fn write_rest(v: u64, buffer: &mut [u8], at: usize, left: usize) -> usize
-    requires { ⌜ Fits v (now buffer) at left ⌝ }
-    ensures { λ r. ⌜ WritesRest v (now (buffer .entry)) at r (now (buffer .exit)) ⌝ }
-{
-    if v < 128 {
-        let byte = v as u8;
-        buffer[at] = byte;
-        return 1;
-    }
-    let next = at + 1;
-    let fewer = left - 1;
-    let up = v / 128;
-    let more = write_rest(up, buffer, next, fewer);
-    let low = (v % 128) as u8;
-    let byte = 128 + low;
-    buffer[at] = byte;
-    more + 1
-}
-
-// The same answers as `write_u64`, and the same bytes.
-pub fn write_u64_rec(v: u64, buffer: &mut [u8], place: Place) -> Written
-    ensures { λ r. ⌜ WritesU64Rec v (now (buffer .entry)) (place .0) r (now (buffer .exit)) ⌝ }
-{
-    let at = place.0;
-    let needed = length_u64(v);
-    let n = needed.0;
-    if buffer.len() < at {
-        return Written::Refused(Refusal::NoRoom);
-    }
-    let room = buffer.len() - at;
-    if room < n {
-        return Written::Refused(Refusal::NoRoom);
-    }
-    let count = write_rest(v, buffer, at, n);
-    Written::Bytes(Count(count))
 }

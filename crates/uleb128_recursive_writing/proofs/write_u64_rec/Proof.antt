@@ -1,11 +1,11 @@
--- `uleb128_recursive::write_u64_rec` meets its promise: the room is known before `write_rest` stores the form.
+-- `uleb128_recursive_writing::write_u64_rec` meets its promise: the room is known before `write_rest` stores the form.
 use native.Mathlib.Omega.{arith}
 use borrow.Author.Needs.{needs}
 use Rattle.groups.proofs.Layings.{no-room}
 use Rattle.uleb128_writing.proofs.Forms.{form-some}
-use Rattle.uleb128_recursive.proofs.Stores.{all-written}
-use Rattle.uleb128_recursive.proofs.write_u64_rec.Statement.{statement}
-use Rattle.uleb128_recursive.proofs.write_u64_rec.Tie as tie
+use Rattle.uleb128_recursive_writing.proofs.Stores.{all-written}
+use Rattle.uleb128_recursive_writing.proofs.write_u64_rec.Statement.{statement}
+use Rattle.uleb128_recursive_writing.proofs.write_u64_rec.Tie as tie
 
 length-u64-requires : tie.Need-length-u64-requires
 length-u64-requires c κs = search needs

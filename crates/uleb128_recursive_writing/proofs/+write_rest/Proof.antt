@@ -1,4 +1,4 @@
--- `uleb128_recursive::write_rest` keeps what it promises inside the crate. The measure is the bytes still allowed; each answer is a law
+-- `uleb128_recursive_writing::write_rest` keeps what it promises inside the crate. The measure is the bytes still allowed; each answer is a law
 -- of `Stores`.
 use Prim.Native.Nat.{ℕ, _<_}
 use native.Mathlib.Omega.{arith}
@@ -6,12 +6,12 @@ use borrow.Author.Needs.{needs}
 use borrow.Fn.Kinds.{In}
 use borrow.Fn.PlainCycle.{Measures, is, falls, and}
 use lib.ListN.{length-set}
-use Rattle.uleb128_recursive.proofs.Stores.{last-stored, front-stored, fits-one, fits-rest, fits-some, fits-count}
-use Rattle.uleb128_recursive.proofs.write_rest.Reads as write-rest
-use Rattle.uleb128_recursive.proofs.write_rest.Kinds as write-rest-kinds
-use Rattle.uleb128_recursive.proofs.+write_rest.Lts-write_rest as lts
-use Rattle.uleb128_recursive.proofs.+write_rest.{statement}
-use Rattle.uleb128_recursive.proofs.+write_rest.Tie.{close}
+use Rattle.uleb128_recursive_writing.proofs.Stores.{last-stored, front-stored, fits-one, fits-rest, fits-some, fits-count}
+use Rattle.uleb128_recursive_writing.proofs.write_rest.Reads as write-rest
+use Rattle.uleb128_recursive_writing.proofs.write_rest.Kinds as write-rest-kinds
+use Rattle.uleb128_recursive_writing.proofs.+write_rest.Lts-write_rest as lts
+use Rattle.uleb128_recursive_writing.proofs.+write_rest.{statement}
+use Rattle.uleb128_recursive_writing.proofs.+write_rest.Tie.{close}
 
 abbrev μ : Measures 1 write-rest-kinds.ps ℕ
 μ κs a = a .1 .1 .1 .0

@@ -10,7 +10,7 @@ use Rattle.words.specs.declared.Written.the-variants.{Bytes}
 use Rattle.groups.specs.Laying.{Lays}
 use Rattle.groups.proofs.Layings.{lays}
 use Rattle.uleb128_writing.specs.Unsigned.{form}
-use Rattle.uleb128_recursive.specs.Inner.{WritesRest, Fits}
+use Rattle.uleb128_recursive_writing.specs.Inner.{WritesRest, Fits}
 use Rattle.uleb128_writing.proofs.Forms.{form-small, form-large, form-some}
 
 -- a store before a run of stores goes ahead of it
