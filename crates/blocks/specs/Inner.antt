@@ -10,7 +10,7 @@ use Rattle.words.specs.Answer.{Answer, gives, refused}
 use Rattle.words.specs.Refusal.{numberOf}
 use Rattle.groups.specs.Width.{read}
 use Rattle.uleb128_writing.specs.Unsigned.{u64}
-use Rattle.sleb128.specs.Signed.{i64}
+use Rattle.sleb128_reading.specs.Signed.{i64}
 use Rattle.blocks.specs.Block.{Val, unsigned, signed, valued}
 use Rattle.blocks.specs.Promise.{valueOf}
 use Rattle.blocks.specs.declared.Reading.{Reading}

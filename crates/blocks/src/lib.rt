@@ -1,6 +1,6 @@
 // Blocks: a run of groups and a tail. A cursor steps through it, a group at a time; set-down finds where to begin.
-use sleb128::ReadI64;
-use sleb128::read_i64;
+use sleb128_reading::ReadI64;
+use sleb128_reading::read_i64;
 use uleb128_reading::ReadU64;
 use uleb128_reading::read_u64;
 use words::Count;

@@ -12,8 +12,8 @@ use Rattle.groups.specs.Width.{runsOut, tooLarge, tooMany, reading, read}
 use Rattle.groups.proofs.Spelling.{some-bytes}
 use Rattle.uleb128_writing.specs.Unsigned as unsigned
 use Rattle.uleb128_writing.proofs.Forms.{form-short, form-some}
-use Rattle.sleb128.specs.Signed as signed
-use Rattle.sleb128.proofs.Forms.{form-spelled}
+use Rattle.sleb128_reading.specs.Signed as signed
+use Rattle.sleb128_reading.proofs.Forms.{form-spelled}
 use Rattle.claims.specs.Readers.{Reader, loop64, recursive64, unsigned32, signed64, Value, form}
 use Rattle.claims.specs.Try.{Starred}
 use Rattle.claims.specs.Claims.{Claims, Most, zero-of}

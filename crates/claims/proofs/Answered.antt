@@ -16,7 +16,7 @@ use Rattle.groups.specs.Laying.{Lays}
 use Rattle.groups.specs.Promise.{walked}
 use Rattle.groups.proofs.Layings.{no-room, lays}
 use Rattle.uleb128_writing.specs.Unsigned as unsigned
-use Rattle.sleb128.specs.Signed as signed
+use Rattle.sleb128_reading.specs.Signed as signed
 use Rattle.lists_writing.specs.Lists.{list-limit, forms}
 use Rattle.lists_writing.specs.Promise.{WritesList}
 use Rattle.turns.specs.Turns.{turnOf}

@@ -20,7 +20,7 @@ use Rattle.groups.specs.Group.{Bytes, Group, one, run, digits}
 use Rattle.groups.specs.Laying.{writing, laid}
 use Rattle.groups.specs.Width.{runsOut, tooLarge, tooMany, reading, read}
 use Rattle.uleb128_writing.specs.Unsigned as unsigned
-use Rattle.sleb128.specs.Signed as signed
+use Rattle.sleb128_reading.specs.Signed as signed
 use Rattle.blocks.specs.Block.{settingDown}
 use Rattle.blocks.specs.Promise.{SetsDown}
 use Rattle.blocks.specs.declared.Cursor.{Cursor}

@@ -23,7 +23,7 @@ use Rattle.groups.proofs.Run.{run-within}
 use Rattle.groups.proofs.Exact.{group-length}
 use Rattle.groups.proofs.Standing.{front-group, run-behind}
 use Rattle.uleb128_writing.specs.Unsigned.{u64}
-use Rattle.sleb128.specs.Signed.{i64}
+use Rattle.sleb128_reading.specs.Signed.{i64}
 use Rattle.blocks.specs.Block.{block-limit, isStart, Val, unsigned, signed, Stepped, number, gap, valued, readBy, says, saysBy, stepping}
 use Rattle.blocks.specs.Promise.{valueOf, Steps}
 use Rattle.blocks.specs.declared.Cursor.{Cursor}

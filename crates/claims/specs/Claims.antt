@@ -39,7 +39,7 @@ use Rattle.uleb128_writing.specs.Promise.{WritesU64}
 use Rattle.uleb128_recursive.specs.Promise.{ReadsU64Rec}
 use Rattle.uleb128_recursive_writing.specs.Promise.{WritesU64Rec}
 use Rattle.uleb128_reading.specs.declared.ReadU64.{ReadU64}
-use Rattle.sleb128.specs.Signed as signed
+use Rattle.sleb128_reading.specs.Signed as signed
 use Rattle.claims.specs.Readers.{Reader, loop64, recursive64, unsigned32, signed64, Value, Reply, number, refuse, Promised, width, form, OfWidth}
 use Rattle.claims.specs.Writers.{Laying, Length}
 use Rattle.blocks.specs.Block.{block-limit}

@@ -1,6 +1,6 @@
 -- `blocks::signed_reading` keeps what it promises inside the crate.
-use Rattle.sleb128.specs.Promise.{meaning}
-use Rattle.sleb128.proofs.Bits.{back}
+use Rattle.sleb128_reading.specs.Promise.{meaning}
+use Rattle.sleb128_reading.proofs.Bits.{back}
 use Rattle.blocks.specs.Block.{signed}
 use Rattle.blocks.proofs.Says.{told}
 use borrow.Author.Needs.{needs}

@@ -10,7 +10,7 @@ use lib.Signed.{mag, ltZ, nonNeg}
 use mir.Syntax.{w64}
 use mir.Val.{toZ, ofZ, Fits, SFits}
 use mir.ValLaws.{toZ-pos, toZ-neg, toZ-ofZ}
-use Rattle.sleb128.specs.Signed.{below}
+use Rattle.sleb128_reading.specs.Signed.{below}
 
 pub below-sign : (v : ℤ) → SFits w64 v → ltZ (toZ w64 (ofZ w64 v)) (pos 0) ≡ below v
 below-sign v f = rw (toZ-ofZ w64 v f) (sign v)

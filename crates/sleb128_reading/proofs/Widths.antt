@@ -11,7 +11,7 @@ use Rattle.words.proofs.Cases.{by-order}
 use Rattle.groups.specs.Form.{say}
 use Rattle.groups.proofs.Walks.{Sound}
 use Rattle.groups.proofs.Exact.{Spells}
-use Rattle.sleb128.specs.Signed.{i64}
+use Rattle.sleb128_reading.specs.Signed.{i64}
 
 pub sound : Sound i64
 sound = record { some = omega arith; low = λ b h. rw (ne-eqb b 0 (λ e. omega arith), ne-eqb b 127 (λ e. omega arith)) }

@@ -1,14 +1,14 @@
--- `sleb128::write_i64` meets its promise: as many groups of seven bits as the form is long are the form.
+-- `sleb128_writing::write_i64` meets its promise: as many groups of seven bits as the form is long are the form.
 use mathlib.Core.Path.{ap, _∙_}
 use lib.IntN.{ℤ}
 use lib.ListN.{length}
 use lib.Signed.{mag}
-use Rattle.sleb128.specs.Signed.{below, form}
-use Rattle.sleb128.proofs.Bits.{back}
-use Rattle.sleb128.proofs.Forms.{form-laid}
+use Rattle.sleb128_reading.specs.Signed.{below, form}
+use Rattle.sleb128_reading.proofs.Bits.{back}
+use Rattle.sleb128_writing.proofs.Forms.{form-laid}
 use borrow.Author.Needs.{needs}
-use Rattle.sleb128.proofs.write_i64.Statement.{statement}
-use Rattle.sleb128.proofs.write_i64.Tie as tie
+use Rattle.sleb128_writing.proofs.write_i64.Statement.{statement}
+use Rattle.sleb128_writing.proofs.write_i64.Tie as tie
 
 magnitude-requires : tie.Need-magnitude-requires
 magnitude-requires c κs = search needs

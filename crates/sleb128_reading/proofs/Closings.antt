@@ -9,8 +9,8 @@ use lib.Dec.{leb, ltb, eqb}
 use Rattle.words.specs.Answer.{gives, refused}
 use Rattle.words.proofs.Cases.{both-false}
 use Rattle.groups.proofs.Run.{limit, pow-up}
-use Rattle.sleb128.specs.Signed.{signed}
-use Rattle.sleb128.specs.Inner.{closing, Closes}
+use Rattle.sleb128_reading.specs.Signed.{signed}
+use Rattle.sleb128_reading.specs.Inner.{closing, Closes}
 
 module _ (b : Bool) (low weight high bits : ℕ) where
   module _ (some : 0 < bits) where

@@ -18,9 +18,9 @@ use Rattle.groups.proofs.Run.{at-run}
 use Rattle.groups.proofs.Spelling.{said, said-digits, spelled-group, spelled-said, last-small, group-bounds, complements}
 use Rattle.groups.proofs.Exact.{accepts, accepted, group-length}
 use Rattle.groups.proofs.Standing.{stands, standing}
-use Rattle.sleb128.specs.Signed.{below, form, twos, i64}
-use Rattle.sleb128.proofs.Forms.{form-spelled}
-use Rattle.sleb128.proofs.Widths.{sound, spells, pow-seven, half-seven}
+use Rattle.sleb128_reading.specs.Signed.{below, form, twos, i64}
+use Rattle.sleb128_reading.proofs.Forms.{form-spelled}
+use Rattle.sleb128_reading.proofs.Widths.{sound, spells, pow-seven, half-seven}
 
 -- the sign that a group's last byte tells, and the number that it says
 module _ {g : List ℕ} (r : Group g) where

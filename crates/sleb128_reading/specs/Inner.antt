@@ -8,7 +8,7 @@ use mathlib.Core.Path.{_≡_}
 use lib.Dec.{leb, ltb, eqb}
 use lib.IntN.{ℤ}
 use Rattle.words.specs.Answer.{pick, both, Answer, gives, refused}
-use Rattle.sleb128.specs.Signed.{signed}
+use Rattle.sleb128_reading.specs.Signed.{signed}
 
 unfoldable pub closing : Bool → ℕ → ℕ → ℕ → ℕ → Answer (ℤ × ℕ)
 closing b low weight high bits =

@@ -1,14 +1,14 @@
--- `sleb128::read_i64` meets its promise: what the walk told is a law over the width, and of a group that closes a law of `ClosedGroups`.
+-- `sleb128_reading::read_i64` meets its promise: what the walk told is a law over the width, and of a group that closes a law of `ClosedGroups`.
 use native.Mathlib.Omega.{arith}
 use borrow.Author.Needs.{needs}
 use denote.Ref.{now}
 use Rattle.groups.proofs.Rows.{read-past, keeps, passes}
 use Rattle.groups.proofs.Walks.{told, Closing, closed-below, open-short, overrun}
-use Rattle.sleb128.specs.Signed.{i64}
-use Rattle.sleb128.proofs.Widths.{sound}
-use Rattle.sleb128.proofs.ClosedGroups.{closes-above, closes-below, reads-above, reads-below}
-use Rattle.sleb128.proofs.read_i64.Statement.{statement}
-use Rattle.sleb128.proofs.read_i64.Tie as tie
+use Rattle.sleb128_reading.specs.Signed.{i64}
+use Rattle.sleb128_reading.proofs.Widths.{sound}
+use Rattle.sleb128_reading.proofs.ClosedGroups.{closes-above, closes-below, reads-above, reads-below}
+use Rattle.sleb128_reading.proofs.read_i64.Statement.{statement}
+use Rattle.sleb128_reading.proofs.read_i64.Tie as tie
 
 abbrev start : tie.After-sum → tie.Start
 start c = c .before .before .before .before

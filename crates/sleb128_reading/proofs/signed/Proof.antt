@@ -1,8 +1,8 @@
--- `sleb128::signed` keeps what it promises inside the crate.
-use Rattle.sleb128.proofs.Bits.{complement, above}
+-- `sleb128_reading::signed` keeps what it promises inside the crate.
+use Rattle.sleb128_reading.proofs.Bits.{complement, above}
 use borrow.Author.Needs.{needs}
-use Rattle.sleb128.proofs.signed.Statement.{statement}
-use Rattle.sleb128.proofs.signed.Tie as tie
+use Rattle.sleb128_reading.proofs.signed.Statement.{statement}
+use Rattle.sleb128_reading.proofs.signed.Tie as tie
 
 cast-v : tie.Need-cast-v
 cast-v c = search needs

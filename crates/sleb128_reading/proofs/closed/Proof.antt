@@ -1,12 +1,12 @@
--- `sleb128::closed` keeps what it promises inside the crate: a law of `Closings` for each answer.
+-- `sleb128_reading::closed` keeps what it promises inside the crate: a law of `Closings` for each answer.
 use Prim.Native.Nat.{_+_, _*_, _^_, _<_}
 use native.Mathlib.Omega.{arith}
 use borrow.Author.Needs.{needs}
 use Rattle.groups.proofs.Rows.{keeps}
-use Rattle.sleb128.proofs.Bits.{back}
-use Rattle.sleb128.proofs.Closings.{closing-large, closing-number, closing-one, closing-many, closing-last, closing-fits, low-fits}
-use Rattle.sleb128.proofs.closed.Statement.{statement}
-use Rattle.sleb128.proofs.closed.Tie as tie
+use Rattle.sleb128_reading.proofs.Bits.{back}
+use Rattle.sleb128_reading.proofs.Closings.{closing-large, closing-number, closing-one, closing-many, closing-last, closing-fits, low-fits}
+use Rattle.sleb128_reading.proofs.closed.Statement.{statement}
+use Rattle.sleb128_reading.proofs.closed.Tie as tie
 
 low : (c : tie.Start) → c .args .low < 2 ^ 63
 low c = low-fits (c .args .below) _ _ _ _ (c .pre)

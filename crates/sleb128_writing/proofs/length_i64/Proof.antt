@@ -1,15 +1,15 @@
--- `sleb128::length_i64` meets its promise: the form is as long as the unsigned form of twice the magnitude.
+-- `sleb128_writing::length_i64` meets its promise: the form is as long as the unsigned form of twice the magnitude.
 use Prim.Native.Nat.{ℕ, _*_}
 use mathlib.Core.Path.{ap, sym, _∙_}
 use native.Mathlib.Omega.{arith}
 use lib.ListN.{length}
 use lib.Signed.{mag}
 use Rattle.uleb128_writing.specs.Unsigned.{form as unsigned-form}
-use Rattle.sleb128.proofs.Bits.{back}
-use Rattle.sleb128.proofs.Forms.{form-length}
+use Rattle.sleb128_reading.proofs.Bits.{back}
+use Rattle.sleb128_writing.proofs.Forms.{form-length}
 use borrow.Author.Needs.{needs}
-use Rattle.sleb128.proofs.length_i64.Statement.{statement}
-use Rattle.sleb128.proofs.length_i64.Tie as tie
+use Rattle.sleb128_writing.proofs.length_i64.Statement.{statement}
+use Rattle.sleb128_writing.proofs.length_i64.Tie as tie
 
 magnitude-requires : tie.Need-magnitude-requires
 magnitude-requires c κs = search needs

@@ -1,4 +1,4 @@
--- Laws of the signed form: it is spelled, and it is as long as the unsigned form of twice the magnitude.
+-- The signed form is as long as the unsigned form of twice the magnitude, and what `store` lays down of that length is the form.
 use Prim.Native.Nat.{ℕ, _-_, _*_, _^_, _≤_, _<_}
 use mathlib.Core.Path.{_≡_}
 use mathlib.Core.List.{List}
@@ -11,14 +11,11 @@ use lib.Signed.{mag}
 use Rattle.words.specs.declared.Written.{Written}
 use Rattle.groups.specs.Form.{groups}
 use Rattle.groups.specs.Laying.{Lays}
-use Rattle.groups.proofs.Spelling.{Spelled, spelled, spelled-laid, some-bytes, short, small-enough}
+use Rattle.groups.proofs.Spelling.{Spelled, spelled-laid, some-bytes, short, small-enough}
 use Rattle.uleb128_writing.specs.Unsigned.{form as unsigned-form}
 use Rattle.uleb128_writing.proofs.Forms.{form-spelled as unsigned-spelled}
-use Rattle.sleb128.specs.Signed.{below, form}
-
-pub form-spelled : (v : ℤ) → Spelled (below v) 64 (mag v) (form v)
-unfolding form
-form-spelled v = spelled (below v) 64 (omega arith) (mag v)
+use Rattle.sleb128_reading.specs.Signed.{below, form}
+use Rattle.sleb128_reading.proofs.Forms.{form-spelled}
 
 -- a spelling that one byte ends below a, of n, is no longer than one that ends below b, of m, where n is below the limits of m
 no-longer : {s t : Bool} {a b m n : ℕ} {g h : List ℕ} → a ≤ 128 → b ≤ 128 → Spelled s a n g → Spelled t b m h
