@@ -16,6 +16,7 @@ use Rattle.blocks.specs.declared.SetDown.the-variants as D
 use Rattle.blocks.proofs.Cuts.{nothing-left}
 use Rattle.claims.specs.Listed.{placed, listed, from, less}
 use Rattle.claims.specs.Blocks.{Start, Least}
+use Rattle.claims.specs.Blocks.SetDownRefused.{no-start}
 use Rattle.claims.specs.Readings.{Block, ReaderSetDown, FrontLost}
 use Rattle.claims.proofs.Listed.{from-start, begins-from, lessened}
 use Rattle.claims.proofs.Settled.{set-down-rows, not-before, start-there}
@@ -67,7 +68,7 @@ reader-set-down f s p bytes = (
       let w = set-down-rows s p (D.At c) .0 a in
       let k : Least s p (c .place .0) = w .1 in
       as-groups f (settled-groups s p (c .place .0) k) (exactly f s (record { bytes = bytes; short = w .0 }) (c .place .0) l (k .start)),
-  λ a. let w = set-down-rows s p (D.Refused NoStart) .0 a in no-groups s p (w .1) (w .2),
+  λ a. elim (set-down-rows s p (D.Refused NoStart) .0 a) [ no-start f here none ↦ no-groups s p here none ],
 )
 
 -- a start behind place 0 of what is left is a start of the whole

@@ -5,7 +5,7 @@
 use Prim.Native.Nat.{ℕ, zero, suc, _+_, _<_, _^_}
 use mathlib.Core.Path.{_≡_, refl, ap, sym, _∙_}
 use mathlib.Core.List.{List, [], _∷_, _++_, append-assoc}
-use mathlib.Core.Logic.{inl, inr, ⊎-elim}
+use mathlib.Core.Logic.{⊎-elim}
 use native.Mathlib.Omega.{arith}
 use lib.ListN.{length, take, drop, length-append, length-drop, take-append-drop}
 use lib.Seq.{take-append-seam, take-length, getD-drop}
@@ -35,11 +35,11 @@ use Rattle.claims.proofs.Rows.{row-refused, high-run, run-high}
 -- a group is the form of a number, or a gap
 data Sorted (g : List ℕ) : Type 0 where
   number : (v : ℕ) → v < 2 ^ 64 → g ≡ form v → Sorted g
-  gap : (why : Refusal) → reading u64 g ≡ refused (numberOf why) → GapRow u64 why g → Sorted g
+  gap : (why : Refusal) → reading u64 g ≡ refused (numberOf why) → GapRow u64 g why → Sorted g
 
 sorted : (g : List ℕ) → Group g → Sorted g
 sorted g k =
-    ⊎-elim (λ (row : (why : Refusal) × Row u64 why g 0).
+    ⊎-elim (λ (row : (why : Refusal) × Row u64 g 0 why).
     let e = sym (from-front u64 g) ∙ row-refused u64 (reading-of loop64 .sound) (row .0) g 0 (row .1) in
     gap (row .0) e (read-group loop64 g k .gap (row .0) .0 e))
     (λ (b : (v : ℕ) × (n : ℕ) × Begins form (OfWidth loop64) g 0 v n).
@@ -84,7 +84,7 @@ in-front s k rest = go (sorted (take (run s + 1) s) k)
           rest = s;
           words = tt;
           behind = refl;
-          fault = inl (take (run s + 1) s, drop (run s + 1) s, split, k, row);
+          fault = Fault.gap (take (run s + 1) s) (drop (run s + 1) s) split k row;
         }))
 
 pub outcome : (n : ℕ) (s : List ℕ) → length s < n → Bytes s → Outcome s (numbers s)
@@ -101,12 +101,12 @@ outcome (suc n) s h bytes =
       rest = s;
       words = tt;
       behind = refl;
-      fault = inr (refl, some, rw (take-length s) at (run-high s (length s) c));
+      fault = Fault.tail some (rw (take-length s) at (run-high s (length s) c));
     })))
     (λ none. rw (numbers-none s (omega arith)) (all [] (empty s (omega arith), tt))))
 
 -- and back: a first fault is what the numbers say
-gap-refused : (why : Refusal) (g rest : List ℕ) → Group g → GapRow u64 why g → numbers (g ++ rest) ≡ refused (numberOf why)
+gap-refused : (why : Refusal) (g rest : List ℕ) → Group g → GapRow u64 g why → numbers (g ++ rest) ≡ refused (numberOf why)
 gap-refused why g rest k row =
     let r : run (g ++ rest) + 1 ≡ length g = omega (arith, run-behind rest k, group-length k) in
     let t : take (run (g ++ rest) + 1) (g ++ rest) ≡ g = rw r (take-append-seam g rest) in
@@ -116,13 +116,11 @@ tail-refused : (rest : List ℕ) → 0 < length rest → High rest → numbers r
 tail-refused rest some high =
     numbers-tail rest (omega (arith, run-within rest, high-run rest (length rest) (omega arith) (rw (take-length rest) high))) some
 
-faulty : (why : Refusal) (rest : List ℕ) → Fault why rest → numbers rest ≡ refused (numberOf why)
-faulty why rest =
-    ⊎-elim (λ (k : (g : List ℕ) × (more : List ℕ) × (rest ≡ g ++ more) × Group g × GapRow u64 why g).
-    ap numbers (k .2) ∙ gap-refused why (k .0) (k .1) (k .3) (k .4))
-    (λ (k : (why ≡ End) × (0 < length rest) × High rest). rw (k .0) (tail-refused rest (k .1) (k .2)))
+faulty : (why : Refusal) (rest : List ℕ) → Fault rest why → numbers rest ≡ refused (numberOf why)
+faulty why rest (Fault.gap g more e k row) = ap numbers e ∙ gap-refused why g more k row
+faulty _ rest (Fault.tail some high) = tail-refused rest some high
 
-pub fault-behind : (why : Refusal) (ns rest : List ℕ) → Words ns → Fault why rest → numbers (forms ns ++ rest) ≡ refused (numberOf why)
+pub fault-behind : (why : Refusal) (ns rest : List ℕ) → Words ns → Fault rest why → numbers (forms ns ++ rest) ≡ refused (numberOf why)
 unfolding forms
 fault-behind why [] rest w k = faulty why rest k
 fault-behind why (v ∷ ns) rest w k =

@@ -13,7 +13,6 @@ use lib.ListN.{length, length-append}
 use lib.Seq.{take-length}
 use Rattle.words.specs.Answer.{gives}
 use Rattle.words.specs.declared.Refusal.{Refusal}
-use Rattle.words.specs.declared.Refusal.the-variants.{End, Overflow, NotShortest, Place, NoRoom, NotAStart, TooLong, NoStart}
 use Rattle.groups.specs.Group.{Bytes, Group, one, more}
 use Rattle.groups.specs.Width.{Width, reading, read}
 use Rattle.groups.proofs.Exact.{group-length}
@@ -55,25 +54,15 @@ module _ (k : Reader) (g : List ℕ) where
         count = ap length e;
       })
 
-  gap-row : (why : Refusal) → Group g → Row (width k) why g 0 → GapRow (width k) why g
-  gap-row Overflow group row = row .1
-  gap-row NotShortest group row = row .1
-  gap-row End group row = omega (arith, group-length group, high-run g (length g) (omega arith) (rw (take-length g) (row .1 .high)))
-  gap-row Place group row = omega (arith, row)
-  gap-row NoRoom group row = row
-  gap-row NotAStart group row = row
-  gap-row TooLong group row = row
-  gap-row NoStart group row = row
+  gap-row : (why : Refusal) → Group g → Row (width k) g 0 why → GapRow (width k) g why
+  gap-row _ group (Row.overflows h row) = GapRow.overflows row
+  gap-row _ group (Row.not-shortest h row) = GapRow.not-shortest row
+  gap-row _ group (Row.ends h row) = absurd (omega (arith, group-length group, high-run g (length g) (omega arith) (rw (take-length g) (row .high))))
+  gap-row _ group (Row.past h) = absurd (omega arith)
 
-  row-gap : (why : Refusal) → GapRow (width k) why g → Row (width k) why g 0
-  row-gap Overflow row = (omega arith, row)
-  row-gap NotShortest row = (omega arith, row)
-  row-gap End row = absurd row
-  row-gap Place row = absurd row
-  row-gap NoRoom row = row
-  row-gap NotAStart row = row
-  row-gap TooLong row = row
-  row-gap NoStart row = row
+  row-gap : (why : Refusal) → GapRow (width k) g why → Row (width k) g 0 why
+  row-gap _ (GapRow.overflows row) = Row.overflows (omega arith) row
+  row-gap _ (GapRow.not-shortest row) = Row.not-shortest (omega arith) row
 
   pub read-group : Group g → ReadGroup k g
   read-group group = record {

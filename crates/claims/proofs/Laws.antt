@@ -120,10 +120,10 @@ accepts k s at r bytes p v n = (
 )
 
 -- 2
-pub read-row : (k : Reader) → (s : List ℕ) (at : ℕ) → Bytes s → (why : Refusal) → read (width k) s at ≡ refused (numberOf why) → Row (width k) why s at
+pub read-row : (k : Reader) → (s : List ℕ) (at : ℕ) → Bytes s → (why : Refusal) → read (width k) s at ≡ refused (numberOf why) → Row (width k) s at why
 read-row k s at bytes why e =
-    ⊎-elim (λ (row : (a : Refusal) × Row (width k) a s at).
-    subst (λ (a : Refusal). Row (width k) a s at) (refused-same (row .0) why (sym (row-refused (width k) (reading-of k .sound) (row .0) s at (row .1)) ∙ e)) (row .1))
+    ⊎-elim (λ (row : (a : Refusal) × Row (width k) s at a).
+    subst (Row (width k) s at) (refused-same (row .0) why (sym (row-refused (width k) (reading-of k .sound) (row .0) s at (row .1)) ∙ e)) (row .1))
     (λ (g : (v : Value k) × (n : ℕ) × Stands (width k) s at v n). apart (sym (standing (width k) s at (g .2)) ∙ e))
     (decide (width k) (reading-of k .sound) s at bytes)
 

@@ -14,7 +14,6 @@ use lib.Seq.{take-length, drop-drop, getD-drop}
 use Rattle.words.specs.Answer.{Answer, gives, refused}
 use Rattle.words.specs.Refusal.{numberOf}
 use Rattle.words.specs.declared.Refusal.{Refusal}
-use Rattle.words.specs.declared.Refusal.the-variants.{End, Overflow, NotShortest, Place, NoRoom, NotAStart, TooLong, NoStart}
 use Rattle.groups.specs.Group.{run}
 use Rattle.groups.proofs.Exact.{group-length}
 use Rattle.groups.proofs.Run.{at-run, run-within}
@@ -27,6 +26,7 @@ use Rattle.blocks.specs.declared.Step.the-variants as S
 use Rattle.blocks.proofs.Cuts.{cut-group, cut-tail}
 use Rattle.claims.specs.Listed.{placed, listed}
 use Rattle.claims.specs.Blocks.{Start, GroupAt, TailAt, GroupReads, StepRefused, StepRow}
+use Rattle.claims.specs.Blocks.StepRefused.{too-long, past, not-a-start}
 use Rattle.claims.specs.Readings.{Block, told, Gives, at-end, at-tail, at-number, at-gap, ReaderFrom}
 use Rattle.claims.proofs.Rows.{high-run}
 use Rattle.claims.proofs.Stepped.{run-of, group-is, group-ends, row-steps, row-found, step-rows}
@@ -79,15 +79,10 @@ module _ (f : ℕ → Rule) (s : List ℕ) where
         one-given p (n .0) (c .place .0) (refused (numberOf why)) l (step-rows (f p) s p (S.Gap why n c) (block .bytes) .0 a .1) (λ j. all-given (c .place .0) l j rest)
 
     -- from a start a step does not refuse
-    no-refusal : (p : ℕ) → Start s p → (why : Refusal) → StepRefused why s p → ⊥
-    no-refusal p k TooLong h = omega (arith, block .short)
-    no-refusal p k Place h = omega (arith, h .1, k .here)
-    no-refusal p k NotAStart h = h .2 k
-    no-refusal p k End h = h
-    no-refusal p k Overflow h = h
-    no-refusal p k NotShortest h = h
-    no-refusal p k NoRoom h = h
-    no-refusal p k NoStart h = h
+    no-refusal : (p : ℕ) → Start s p → (why : Refusal) → StepRefused s p why → ⊥
+    no-refusal p k _ (too-long h) = omega (arith, block .short)
+    no-refusal p k _ (past f h) = omega (arith, k .here)
+    no-refusal p k _ (not-a-start f h not) = not k
 
     further : {p n q : ℕ} {a : Answer Val} → GroupReads (f p) s p a n q → (p < q) × Start s q
     further k = (omega (arith, k .next, long (k .stands)), rw (k .next) (next-start (k .stands)))

@@ -11,7 +11,7 @@ use lib.Seq.{getD-take, getD-drop, length-take-le, take-length}
 use Rattle.words.specs.Answer.{refused}
 use Rattle.words.specs.Refusal.{numberOf}
 use Rattle.words.specs.declared.Refusal.{Refusal}
-use Rattle.words.specs.declared.Refusal.the-variants.{End, Overflow, NotShortest, Place, NoRoom, NotAStart, TooLong, NoStart}
+use Rattle.words.specs.declared.Refusal.the-variants.{End, Overflow, NotShortest, Place}
 use Rattle.words.proofs.Cases.{by-order, by-test, clash}
 use Rattle.groups.specs.Group.{Bytes, High, Group, run}
 use Rattle.groups.specs.Width.{Width, reading, read, tooLarge, tooMany}
@@ -21,6 +21,7 @@ use Rattle.groups.proofs.Walks.{Sound}
 use Rattle.groups.proofs.Exact.{group-length}
 use Rattle.groups.proofs.Standing.{Stands, front-group, behind, large-behind}
 use Rattle.claims.specs.Table.{EndRow, OverflowRow, NotShortestRow, Row}
+use Rattle.claims.specs.Table.Row.{ends, overflows, not-shortest, past}
 
 -- high bytes are those that `run` counts
 pub high-run : (l : List ℕ) (j : ℕ) → j ≤ length l → High (take j l) → j ≤ run l
@@ -60,19 +61,15 @@ module _ {A : Type 0} (w : Width A) (sound : Sound w) where
       let many : tooMany w g ≡ true = too-many w g (omega (arith, row .not-first)) (rw (i, j) at (row .too-many)) in
       ap (reading w) (row .ends) ∙ behind w (row .rest) (row .is-group) ∙ rw (large, many)
 
-  pub row-refused : (why : Refusal) (s : List ℕ) (at : ℕ) → Row w why s at → read w s at ≡ refused (numberOf why)
-  row-refused End s at row = read-from w s at (row .0) ∙ end-refused (drop at s) (row .1)
-  row-refused Overflow s at row = read-from w s at (row .0) ∙ overflow-refused (drop at s) (row .1)
-  row-refused NotShortest s at row = read-from w s at (row .0) ∙ not-shortest-refused (drop at s) (row .1)
-  row-refused Place s at row = read-past w s at row
-  row-refused NoRoom s at row = absurd row
-  row-refused NotAStart s at row = absurd row
-  row-refused TooLong s at row = absurd row
-  row-refused NoStart s at row = absurd row
+  pub row-refused : (why : Refusal) (s : List ℕ) (at : ℕ) → Row w s at why → read w s at ≡ refused (numberOf why)
+  row-refused _ s at (ends here row) = read-from w s at here ∙ end-refused (drop at s) row
+  row-refused _ s at (overflows here row) = read-from w s at here ∙ overflow-refused (drop at s) row
+  row-refused _ s at (not-shortest here row) = read-from w s at here ∙ not-shortest-refused (drop at s) row
+  row-refused _ s at (past h) = read-past w s at h
 
   -- each reading is decided: by a row, or by a group that stands there
   abbrev pub Decided : List ℕ → ℕ → Type 0
-  Decided s at = ((why : Refusal) × Row w why s at) ⊎ ((v : A) × (n : ℕ) × Stands w s at v n)
+  Decided s at = ((why : Refusal) × Row w s at why) ⊎ ((v : A) × (n : ℕ) × Stands w s at v n)
 
   overrun-row : (l : List ℕ) → w .most ≤ run l → OverflowRow w l
   overrun-row l h = record {
@@ -117,10 +114,10 @@ module _ {A : Type 0} (w : Width A) (sound : Sound w) where
       let split : l ≡ g ++ drop (run l + 1) l = sym (take-append-drop (run l + 1) l) in
       let r : Group g = front-group l (λ i. rw (getD-drop at s i 0) (bytes (at + i))) closed in
       let same : tooLarge w l ≡ tooLarge w g = ap (tooLarge w) split ∙ large-behind w (drop (run l + 1) l) r in
-      by-test (tooLarge w l) (λ t. inl (Overflow, (here, large-row l closed t)))
+      by-test (tooLarge w l) (λ t. inl (Overflow, overflows here (large-row l closed t)))
       (λ t.
       let small : tooLarge w g ≡ false = sym same ∙ t in
-      by-test (tooMany w g) (λ u. inl (NotShortest, (here, many-row l g (drop (run l + 1) l) split r small u)))
+      by-test (tooMany w g) (λ u. inl (NotShortest, not-shortest here (many-row l g (drop (run l + 1) l) split r small u)))
       (λ u. inr (
         w .value g,
         length g,
@@ -139,10 +136,10 @@ module _ {A : Type 0} (w : Width A) (sound : Sound w) where
 
   pub decide : (s : List ℕ) (at : ℕ) → Bytes s → Decided s at
   decide s at bytes =
-      by-order (length s) at (λ past. inl (Place, past))
+      by-order (length s) at (λ p. inl (Place, past p))
       (λ here.
       by-order (run (drop at s)) (length (drop at s)) (λ closed. decide-closed s at bytes here closed)
       (λ all.
       by-order (run (drop at s)) (w .most)
-      (λ few. inl (End, (here, record { fewer = omega arith; high = rw (take-length (drop at s)) at (run-high (drop at s) (length (drop at s)) (omega arith)) })))
-      (λ many. inl (Overflow, (here, overrun-row (drop at s) many)))))
+      (λ few. inl (End, ends here (record { fewer = omega arith; high = rw (take-length (drop at s)) at (run-high (drop at s) (length (drop at s)) (omega arith)) })))
+      (λ many. inl (Overflow, overflows here (overrun-row (drop at s) many)))))

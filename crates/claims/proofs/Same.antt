@@ -3,13 +3,12 @@ use Prim.Native.Nat.{ℕ}
 use mathlib.Core.Path.{_≡_, refl, ap, sym, _∙_, subst}
 use mathlib.Core.Logic.{_↔_}
 use native.Mathlib.Omega.{arith}
-use lib.Dec.{eqb}
-use Rattle.words.specs.Answer.{pick, Answer, gives, refused, meaning}
+use Rattle.words.specs.Answer.{Answer, gives, refused, meaning}
 use Rattle.words.specs.Refusal.{numberOf}
 use Rattle.words.specs.declared.Refusal.{Refusal}
-use Rattle.words.specs.declared.Refusal.the-variants.{End, Overflow, NotShortest, Place, NoRoom, NotAStart, TooLong, NoStart}
 use Rattle.words.specs.declared.Written.{Written}
 use Rattle.words.specs.declared.Written.the-variants as W
+use Rattle.words.proofs.Numbered.{refusalOf, refusal-back, same-refusal}
 use Rattle.blocks.specs.Block.{Val, unsigned, signed, Stepped, number, gap, tail, finished, refuses}
 use Rattle.blocks.specs.Promise.{valueOf, meaning as meaningStep, meaningSet}
 use Rattle.blocks.specs.declared.Step.{Step}
@@ -28,25 +27,6 @@ use Rattle.listing.specs.declared.Next.the-variants as X
 use Rattle.lists.specs.Promise.{meaning as meaningList}
 use Rattle.lists.specs.declared.ReadList.{ReadList}
 use Rattle.lists.specs.declared.ReadList.the-variants as L
-
--- the refusal of a number
-abbrev refusalOf : ℕ → Refusal
-refusalOf n =
-    pick (eqb n 1) End (pick (eqb n 2) Overflow (pick (eqb n 3) NotShortest (pick (eqb n 4) Place
-    (pick (eqb n 5) NoRoom (pick (eqb n 6) NotAStart (pick (eqb n 7) TooLong NoStart))))))
-
-refusal-back : (a : Refusal) → refusalOf (numberOf a) ≡ a
-refusal-back End = refl
-refusal-back Overflow = refl
-refusal-back NotShortest = refl
-refusal-back Place = refl
-refusal-back NoRoom = refl
-refusal-back NotAStart = refl
-refusal-back TooLong = refl
-refusal-back NoStart = refl
-
-pub same-refusal : (a b : Refusal) → numberOf a ≡ numberOf b → a ≡ b
-same-refusal a b e = sym (refusal-back a) ∙ ap refusalOf e ∙ refusal-back b
 
 -- answers of two kinds are never equal
 pub apart : {A X : Type 0} {a : A} {k : ℕ} → _≡_ {A = Answer A} (gives a) (refused k) → X

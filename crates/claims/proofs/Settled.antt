@@ -8,7 +8,7 @@ use native.Mathlib.Omega.{arith}
 use lib.ListN.{length, getD, drop, length-drop}
 use lib.Seq.{getD-drop}
 use Rattle.words.specs.declared.Refusal.{Refusal}
-use Rattle.words.specs.declared.Refusal.the-variants.{End, Overflow, NotShortest, Place, NoRoom, NotAStart, TooLong, NoStart}
+use Rattle.words.specs.declared.Refusal.the-variants.{Place, TooLong, NoStart}
 use Rattle.words.proofs.Cases.{by-order}
 use Rattle.groups.specs.Group.{run}
 use Rattle.groups.proofs.Run.{in-run, at-run}
@@ -19,6 +19,7 @@ use Rattle.blocks.specs.declared.SetDown.{SetDown}
 use Rattle.blocks.specs.declared.SetDown.the-variants as D
 use Rattle.blocks.proofs.Rows.{set-too-long, set-past, set-front, set-found, set-none}
 use Rattle.claims.specs.Blocks.{Start, Least, SetDownRefused, SetDownRow}
+use Rattle.claims.specs.Blocks.SetDownRefused.{too-long, past, no-start}
 use Rattle.claims.proofs.Same.{same-set, by-rows}
 
 abbrev cursor : ℕ → Cursor
@@ -51,9 +52,9 @@ module _ (s : List ℕ) (p : ℕ) where
   -- one of the rows holds
   pub row-found : (r : SetDown) × SetDownRow s p r
   row-found =
-      by-order block-limit (length s) (λ h. (D.Refused TooLong, h))
+      by-order block-limit (length s) (λ h. (D.Refused TooLong, too-long h))
       (λ f.
-      by-order (length s) p (λ h. (D.Refused Place, (f, h)))
+      by-order (length s) p (λ h. (D.Refused Place, past f h))
       (λ here.
       by-order p 1
       (λ z. (
@@ -80,23 +81,18 @@ module _ (s : List ℕ) (p : ℕ) where
           },
         ),
       ))
-      (λ l. (D.Refused NoStart, (f, here, λ q a c. omega (arith, not-before s p some q a c, c .here)))))))
+      (λ l. (D.Refused NoStart, no-start f here (λ q a c. omega (arith, not-before s p some q a c, c .here)))))))
 
   -- where its row holds, an answer is a set-down's
-  refused-row : (why : Refusal) → SetDownRefused why s p → SetsDown s p (D.Refused why)
-  refused-row TooLong h = set-too-long s p h
-  refused-row Place h = set-past s p (h .0) (h .1)
-  refused-row NoStart h =
-      by-order p 1 (λ z. absurd (h .2 p (omega arith) (record { here = h .1; behind = inl (omega arith) })))
+  refused-row : (why : Refusal) → SetDownRefused s p why → SetsDown s p (D.Refused why)
+  refused-row _ (too-long h) = set-too-long s p h
+  refused-row _ (past f h) = set-past s p f h
+  refused-row _ (no-start f here none) =
+      by-order p 1 (λ z. absurd (none p (omega arith) (record { here = here; behind = inl (omega arith) })))
       (λ some.
       by-order (p - 1 + run (drop (p - 1) s)) (length s)
-      (λ l. absurd (h .2 (p + run (drop (p - 1) s)) (omega arith) (start-there s p some l)))
-      (λ l. set-none s p (h .0) (h .1) some l))
-  refused-row End h = absurd h
-  refused-row Overflow h = absurd h
-  refused-row NotShortest h = absurd h
-  refused-row NoRoom h = absurd h
-  refused-row NotAStart h = absurd h
+      (λ l. absurd (none (p + run (drop (p - 1) s)) (omega arith) (start-there s p some l)))
+      (λ l. set-none s p f here some l))
 
   pub row-sets : (r : SetDown) → SetDownRow s p r → SetsDown s p r
   row-sets (D.Refused why) h = refused-row why h

@@ -15,7 +15,7 @@ use Rattle.words.specs.Answer.{Answer, gives, refused}
 use Rattle.words.specs.Refusal.{numberOf}
 use Rattle.words.specs.declared.Count.{Count}
 use Rattle.words.specs.declared.Refusal.{Refusal}
-use Rattle.words.specs.declared.Refusal.the-variants.{End, Overflow, NotShortest, Place, NoRoom, NotAStart, TooLong, NoStart}
+use Rattle.words.specs.declared.Refusal.the-variants.{Place, NotAStart, TooLong}
 use Rattle.words.proofs.Cases.{by-order, by-test, clash}
 use Rattle.groups.specs.Group.{Bytes, run}
 use Rattle.groups.specs.Width.{Width, reading}
@@ -34,6 +34,7 @@ use Rattle.blocks.specs.declared.Step.the-variants as S
 use Rattle.blocks.specs.declared.Value.the-variants as N
 use Rattle.blocks.proofs.Rows.{step-too-long, step-past, step-finished, step-not-a-start, step-tail, group-says}
 use Rattle.claims.specs.Blocks.{Start, GroupAt, TailAt, GroupReads, StepRefused, StepRow}
+use Rattle.claims.specs.Blocks.StepRefused.{too-long, past, not-a-start}
 use Rattle.claims.proofs.Rows.{high-run, run-high}
 use Rattle.claims.proofs.Told.{reading-told}
 use Rattle.claims.proofs.Same.{same-step, by-rows}
@@ -94,16 +95,11 @@ module _ (rule : Rule) (s : List ℕ) (p : ℕ) where
   said k = rw (k .count, k .next, ← (k .reads)) (to-says (readBy rule (k .group)) (length (k .group)) p)
 
   -- where its row holds, an answer is a step's
-  refused-row : (why : Refusal) → StepRefused why s p → Steps rule s p (S.Refused why)
-  refused-row TooLong h = step-too-long rule s p h
-  refused-row Place h = step-past rule s p (h .0) (h .1)
-  refused-row NotAStart h =
-      by-test (isStart s p) (λ t. absurd (h .2 (true-start s p (omega (arith, h .1)) t))) (λ t. step-not-a-start rule s p (h .0) (h .1) t)
-  refused-row End h = absurd h
-  refused-row Overflow h = absurd h
-  refused-row NotShortest h = absurd h
-  refused-row NoRoom h = absurd h
-  refused-row NoStart h = absurd h
+  refused-row : (why : Refusal) → StepRefused s p why → Steps rule s p (S.Refused why)
+  refused-row _ (too-long h) = step-too-long rule s p h
+  refused-row _ (past f h) = step-past rule s p f h
+  refused-row _ (not-a-start f h not) =
+      by-test (isStart s p) (λ t. absurd (not (true-start s p (omega (arith, h)) t))) (λ t. step-not-a-start rule s p f h t)
 
   pub row-steps : (r : Step) → StepRow rule s p r → Steps rule s p r
   row-steps (S.Refused why) h = refused-row why h
@@ -148,9 +144,9 @@ module _ (s : List ℕ) (p : ℕ) (f : length s ≤ block-limit) (g : List ℕ) 
 module _ (rule : Rule) (s : List ℕ) (p : ℕ) where
   pub row-found : Bytes s → (r : Step) × StepRow rule s p r
   row-found bytes =
-      by-order block-limit (length s) (λ h. (S.Refused TooLong, h))
+      by-order block-limit (length s) (λ h. (S.Refused TooLong, too-long h))
       (λ f.
-      by-order (length s) p (λ h. (S.Refused Place, (f, h)))
+      by-order (length s) p (λ h. (S.Refused Place, past f h))
       (λ h.
       by-order p (length s) (within f)
       (λ l. (S.Finished (cursor p), (f, omega arith, refl)))))
@@ -175,7 +171,7 @@ module _ (rule : Rule) (s : List ℕ) (p : ℕ) where
             high = rw (take-length l) at (run-high l (length l) c);
           } in
           (S.Tail (count (length s - p)) (cursor p), (f, k, omega arith, refl))))
-          (λ t. (S.Refused NotAStart, (f, h, λ k. clash t (start-true k))))
+          (λ t. (S.Refused NotAStart, not-a-start f h (λ k. clash t (start-true k))))
 
 pub step-rows : (rule : Rule) (s : List ℕ) (p : ℕ) (r : Step) → Bytes s → Steps rule s p r ↔ StepRow rule s p r
 step-rows rule s p r bytes = by-rows (λ r r′ a b. same-step r r′ (a .is ∙ sym (b .is))) (row-steps rule s p) (row-found rule s p bytes) r

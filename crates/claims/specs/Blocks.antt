@@ -18,7 +18,7 @@ use lib.Signed.{_<ℤ_}
 use Rattle.words.specs.Answer.{Answer, gives, refused}
 use Rattle.words.specs.Refusal.{numberOf}
 use Rattle.words.specs.declared.Refusal.{Refusal}
-use Rattle.words.specs.declared.Refusal.the-variants.{End, Overflow, NotShortest, Place, NoRoom, NotAStart, TooLong, NoStart}
+use Rattle.words.specs.declared.Refusal.the-variants.{Place, NotAStart, TooLong, NoStart}
 use Rattle.groups.specs.Group.{High, Group}
 use Rattle.blocks.specs.Block.{block-limit, Val, readBy}
 use Rattle.blocks.specs.Promise.{valueOf}
@@ -52,32 +52,22 @@ pub record GroupReads (rule : Rule) (s : List ℕ) (p : ℕ) (a : Answer Val) (n
   pub count : n ≡ length group
   pub next : q ≡ p + length group
 
-abbrev pub StepRefused : Refusal → List ℕ → ℕ → Type 0
-StepRefused TooLong s p = block-limit < length s
-StepRefused Place s p = (length s ≤ block-limit) × (length s < p)
-StepRefused NotAStart s p = (length s ≤ block-limit) × (p < length s) × (Start s p → ⊥)
-StepRefused End s p = ⊥
-StepRefused Overflow s p = ⊥
-StepRefused NotShortest s p = ⊥
-StepRefused NoRoom s p = ⊥
-StepRefused NoStart s p = ⊥
+pub data StepRefused (s : List ℕ) (p : ℕ) : Refusal → Type 0 where
+  too-long : block-limit < length s → StepRefused s p TooLong
+  past : length s ≤ block-limit → length s < p → StepRefused s p Place
+  not-a-start : length s ≤ block-limit → p < length s → (Start s p → ⊥) → StepRefused s p NotAStart
 
 abbrev pub StepRow : Rule → List ℕ → ℕ → Step → Type 0
 StepRow rule s p (S.Number v n c) = (length s ≤ block-limit) × GroupReads rule s p (gives (valueOf v)) (n .0) (c .place .0)
 StepRow rule s p (S.Gap why n c) = (length s ≤ block-limit) × GroupReads rule s p (refused (numberOf why)) (n .0) (c .place .0)
 StepRow rule s p (S.Tail n c) = (length s ≤ block-limit) × TailAt s p × (p + n .0 ≡ length s) × (c .place .0 ≡ p)
 StepRow rule s p (S.Finished c) = (length s ≤ block-limit) × (p ≡ length s) × (c .place .0 ≡ p)
-StepRow rule s p (S.Refused why) = StepRefused why s p
+StepRow rule s p (S.Refused why) = StepRefused s p why
 
-abbrev pub SetDownRefused : Refusal → List ℕ → ℕ → Type 0
-SetDownRefused TooLong s p = block-limit < length s
-SetDownRefused Place s p = (length s ≤ block-limit) × (length s < p)
-SetDownRefused NoStart s p = (length s ≤ block-limit) × (p ≤ length s) × ((q : ℕ) → p ≤ q → Start s q → ⊥)
-SetDownRefused End s p = ⊥
-SetDownRefused Overflow s p = ⊥
-SetDownRefused NotShortest s p = ⊥
-SetDownRefused NoRoom s p = ⊥
-SetDownRefused NotAStart s p = ⊥
+pub data SetDownRefused (s : List ℕ) (p : ℕ) : Refusal → Type 0 where
+  too-long : block-limit < length s → SetDownRefused s p TooLong
+  past : length s ≤ block-limit → length s < p → SetDownRefused s p Place
+  no-start : length s ≤ block-limit → p ≤ length s → ((q : ℕ) → p ≤ q → Start s q → ⊥) → SetDownRefused s p NoStart
 
 -- q is the least start at p or later
 pub record Least (s : List ℕ) (p q : ℕ) : Type 0 where
@@ -87,7 +77,7 @@ pub record Least (s : List ℕ) (p q : ℕ) : Type 0 where
 
 abbrev pub SetDownRow : List ℕ → ℕ → SetDown → Type 0
 SetDownRow s p (D.At c) = (length s ≤ block-limit) × Least s p (c .place .0)
-SetDownRow s p (D.Refused why) = SetDownRefused why s p
+SetDownRow s p (D.Refused why) = SetDownRefused s p why
 
 -- What a turn means: above zero is Tighten, below zero is Loosen, zero is Hold.
 abbrev pub TurnRow : ℤ → Turn → Type 0

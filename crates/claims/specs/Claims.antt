@@ -77,16 +77,16 @@ Accepts k = (s : List ℕ) (at : ℕ) (r : Reply k) → Bytes s → Promised k s
 -- it accepts.
 abbrev pub Refuses : Reader → Type 0
 Refuses k = (s : List ℕ) (at : ℕ) (r : Reply k) → Bytes s → Promised k s at r
-    → (why : Refusal) → (r ≡ refuse k why) ↔ Row (width k) why s at
+    → (why : Refusal) → (r ≡ refuse k why) ↔ Row (width k) s at why
 
 abbrev pub Excludes : Reader → Type 0
 Excludes k = (s : List ℕ) (at : ℕ) →
-    ((a b : Refusal) → Row (width k) a s at → Row (width k) b s at → a ≡ b)
-    × ((a : Refusal) (v : Value k) (n : ℕ) → Row (width k) a s at → Begins (form k) (OfWidth k) s at v n → ⊥)
+    ((a b : Refusal) → Row (width k) s at a → Row (width k) s at b → a ≡ b)
+    × ((a : Refusal) (v : Value k) (n : ℕ) → Row (width k) s at a → Begins (form k) (OfWidth k) s at v n → ⊥)
 
 abbrev pub Exhausts : Reader → Type 0
 Exhausts k = (s : List ℕ) (at : ℕ) → Bytes s →
-    ((why : Refusal) × Row (width k) why s at) ⊎ ((v : Value k) × (n : ℕ) × Begins (form k) (OfWidth k) s at v n)
+    ((why : Refusal) × Row (width k) s at why) ⊎ ((v : Value k) × (n : ℕ) × Begins (form k) (OfWidth k) s at v n)
 
 -- 3. A writer answers the count and leaves exactly the form at the place and all else kept, or answers 5 and leaves every byte, the
 -- latter exactly when place + bytes needed > buffer length.
@@ -117,7 +117,7 @@ ListBack = (ns before : List ℕ) (at : ℕ) (n : Count) (after old : List ℕ) 
 -- A group is read as a number exactly when it is its shortest form, and else is a gap, by row 2 or 3.
 pub record ReadGroup (k : Reader) (g : List ℕ) : Type 0 where
   pub number : (v : Value k) → (reading (width k) g ≡ gives (v, length g)) ↔ (OfWidth k v × (g ≡ form k v))
-  pub gap : (why : Refusal) → (reading (width k) g ≡ refused (numberOf why)) ↔ GapRow (width k) why g
+  pub gap : (why : Refusal) → (reading (width k) g ≡ refused (numberOf why)) ↔ GapRow (width k) g why
 
 -- 4. The shortest unsigned form: one byte v if v < 128, else (v mod 128) + 128 followed by the form of v div 128.
 abbrev pub Shortest : Type 0

@@ -4,15 +4,15 @@
 --   EndRow           fewer bytes than the most, and each is 128 or more (also none)
 --   OverflowRow      all earlier bytes are 128 or more, and the byte at the greatest length is outside the table of widths
 --   NotShortestRow   the number ends, not too large, and its last byte is one too many
---   Row w why        given exactly when: 1, 2 and 3 for a start that isn't past the end, 4 for one that is; 5 to 8 never
---   GapRow w why     why a group is no number of the width: 2 or 3
+--   Row w s at       given exactly when: 1, 2 and 3 for a start that isn't past the end, 4 for one that is; no other refusal has a row
+--   GapRow w g       why a group is no number of the width: 2 or 3
 use Prim.Native.Nat.{ℕ, _-_, _≤_, _<_}
 use mathlib.Core.List.{List, _++_}
 use mathlib.Core.Bool.{true, false}
 use mathlib.Core.Path.{_≡_}
 use lib.ListN.{length, getD, take, drop}
 use Rattle.words.specs.declared.Refusal.{Refusal}
-use Rattle.words.specs.declared.Refusal.the-variants.{End, Overflow, NotShortest, Place, NoRoom, NotAStart, TooLong, NoStart}
+use Rattle.words.specs.declared.Refusal.the-variants.{End, Overflow, NotShortest, Place}
 use Rattle.groups.specs.Group.{High, Group}
 use Rattle.groups.specs.Width.{Width}
 
@@ -37,22 +37,12 @@ pub record NotShortestRow {A : Type 0} (w : Width A) (bytes : List ℕ) : Type 0
   pub not-first : 1 < length group
   pub too-many : w .extra (getD group (length group - 2) 0) (getD group (length group - 1) 0) ≡ true
 
-abbrev pub Row : {A : Type 0} → Width A → Refusal → List ℕ → ℕ → Type 0
-Row w End s at = (at ≤ length s) × EndRow w (drop at s)
-Row w Overflow s at = (at ≤ length s) × OverflowRow w (drop at s)
-Row w NotShortest s at = (at ≤ length s) × NotShortestRow w (drop at s)
-Row w Place s at = length s < at
-Row w NoRoom s at = ⊥
-Row w NotAStart s at = ⊥
-Row w TooLong s at = ⊥
-Row w NoStart s at = ⊥
+pub data Row {A : Type 0} (w : Width A) (s : List ℕ) (at : ℕ) : Refusal → Type 0 where
+  ends : at ≤ length s → EndRow w (drop at s) → Row w s at End
+  overflows : at ≤ length s → OverflowRow w (drop at s) → Row w s at Overflow
+  not-shortest : at ≤ length s → NotShortestRow w (drop at s) → Row w s at NotShortest
+  past : length s < at → Row w s at Place
 
-abbrev pub GapRow : {A : Type 0} → Width A → Refusal → List ℕ → Type 0
-GapRow w Overflow g = OverflowRow w g
-GapRow w NotShortest g = NotShortestRow w g
-GapRow w End g = ⊥
-GapRow w Place g = ⊥
-GapRow w NoRoom g = ⊥
-GapRow w NotAStart g = ⊥
-GapRow w TooLong g = ⊥
-GapRow w NoStart g = ⊥
+pub data GapRow {A : Type 0} (w : Width A) (g : List ℕ) : Refusal → Type 0 where
+  overflows : OverflowRow w g → GapRow w g Overflow
+  not-shortest : NotShortestRow w g → GapRow w g NotShortest

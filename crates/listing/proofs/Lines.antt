@@ -5,21 +5,24 @@
 --   none, refuses  nothing is given, or a refusal is, and the buffer is kept; no-room where the buffer is too small for a line
 --   row-fits       a row of numbers of 64 bits fits; fault-short: so short is the name of a fault
 --   other-fault    a fault that isn't not-shortest is an overflow
-use Prim.Native.Nat.{ℕ, _^_, _≤_, _<_}
-use mathlib.Core.Path.{_≡_, refl, ap}
+use Prim.Native.Nat.{ℕ, suc, _^_, _≤_, _<_}
+use mathlib.Core.Path.{_≡_, ap, subst}
 use mathlib.Core.List.{List, [], _∷_, _++_}
 use native.Mathlib.Omega.{arith}
-use borrow.Author.Tests.{lt-ltb, le-ltb}
+use borrow.Author.Tests.{lt-ltb, le-ltb, eqb-true}
 use lib.Dec.{eqb}
 use lib.ListN.{length, drop, length-append}
 use denote.Enum.Declared.{tagOf}
+use denote.Struct.Field.{Field}
 use types.Run.{OneOf, miss}
+use Rattle.words.specs.Answer.{pick}
 use Rattle.words.specs.Refusal.{numberOf}
 use Rattle.words.proofs.Cases.{by-test}
+use Rattle.words.proofs.Numbered.{same-refusal}
 use Rattle.words.specs.declared.Count.{Count}
 use Rattle.words.specs.declared.Refusal.{Refusal}
-use Rattle.words.proofs.Refusal.{the-type}
-use Rattle.words.specs.declared.Refusal.the-variants.{End, Overflow, NotShortest, Place, NoRoom, NotAStart, TooLong, NoStart}
+use Rattle.words.proofs.Refusal.{parts, the-type}
+use Rattle.words.specs.declared.Refusal.the-variants.{NoRoom, NotShortest}
 use Rattle.texts.specs.Texts.{ascii, Lays}
 use Rattle.texts.proofs.Decimals.{at-most-20}
 use Rattle.texts.proofs.Laying.{front, front-count}
@@ -57,12 +60,15 @@ row-fits p v what h k w = simp length-append (omega (arith, at-most-20 p h, at-m
 pub fault-short : (k : ℕ) → length (fault k) ≤ 12
 fault-short k = by-test (eqb k 3) (λ e. rw e (omega arith)) (λ e. rw e (omega arith))
 
-pub other-fault : (why : Refusal) → OneOf (0 ∷ 1 ∷ 3 ∷ 4 ∷ 5 ∷ 6 ∷ 7 ∷ []) (tagOf the-type why) → fault (numberOf why) ≡ ascii "overflow"
-other-fault NotShortest h = absurd (miss (0 ∷ 1 ∷ 3 ∷ 4 ∷ 5 ∷ 6 ∷ 7 ∷ []) 2 tt h)
-other-fault End h = refl
-other-fault Overflow h = refl
-other-fault Place h = refl
-other-fault NoRoom h = refl
-other-fault NotAStart h = refl
-other-fault TooLong h = refl
-other-fault NoStart h = refl
+-- the places of all variants but not-shortest's, which is 2: the keys of `gap_row`'s second arm
+abbrev others : List (List Field) → ℕ → List ℕ
+others [] i = []
+others (Fs ∷ Fss) i = pick (eqb i 2) (others Fss (suc i)) (i ∷ others Fss (suc i))
+
+pub other-fault : (why : Refusal) → OneOf (others parts 0) (tagOf the-type why) → fault (numberOf why) ≡ ascii "overflow"
+other-fault why h =
+    by-test (eqb (numberOf why) 3)
+    (λ t.
+    let e : why ≡ NotShortest = same-refusal why NotShortest (eqb-true (numberOf why) 3 t) in
+    absurd (miss (others parts 0) 2 tt (subst (λ (a : Refusal). OneOf (others parts 0) (tagOf the-type a)) e h)))
+    (λ t. rw t)
