@@ -18,7 +18,7 @@ use Rattle.groups.specs.Width.{Width, reading, read}
 use Rattle.groups.proofs.Exact.{group-length}
 use Rattle.claims.specs.Readers.{Reader, Value, width, form, OfWidth}
 use Rattle.claims.specs.Table.{Row, GapRow}
-use Rattle.claims.specs.Claims.{ReadGroup}
+use Rattle.claims.specs.OfBlocks.{ReadGroup}
 use Rattle.claims.proofs.Laws.{reading-of, read-row}
 use Rattle.claims.proofs.Rows.{row-refused, high-run}
 

@@ -31,7 +31,7 @@ use Rattle.claims.specs.Readers.{Reader, loop64, recursive64, unsigned32
 use Rattle.claims.specs.Writers.{Laying}
 use Rattle.claims.specs.Blocks.{GroupAt}
 use Rattle.claims.specs.Readings.{Block}
-use Rattle.claims.specs.Claims.{zero-of}
+use Rattle.claims.specs.OfNumbers.{zero-of}
 use Rattle.claims.proofs.Laws.{number-says}
 
 abbrev count : ℕ → Count

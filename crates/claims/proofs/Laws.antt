@@ -24,7 +24,7 @@ use Rattle.sleb128_reading.proofs.Widths as signed-widths
 use Rattle.sleb128_reading.proofs.Exactly as signed-exactly
 use Rattle.claims.specs.Readers.{Reader, loop64, recursive64, unsigned32, signed64, Value, Reply, number, refuse, Promised, width, form, OfWidth}
 use Rattle.claims.specs.Table.{Row}
-use Rattle.claims.specs.Claims.{Accepts, Refuses, Excludes, Exhausts}
+use Rattle.claims.specs.OfNumbers.{Accepts, Refuses, Excludes, Exhausts}
 use Rattle.claims.proofs.Same.{apart, refused-same, given-value, given-count, same-both}
 use Rattle.claims.proofs.Rows.{row-refused, decide}
 use Rattle.claims.proofs.Told.{reply-told}

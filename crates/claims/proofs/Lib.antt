@@ -19,5 +19,11 @@ mod Damaged
 mod Turned
 mod Listings
 mod Answered
+mod OfNumbers
+mod OfBlocks
+mod OfDamage
+mod OfLists
+mod OfTurns
+mod OfListing
 mod Instances
 pub mod All

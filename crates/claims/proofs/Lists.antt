@@ -21,7 +21,7 @@ use Rattle.lists.proofs.Fronts.{numbers-group, numbers-none}
 use Rattle.lists_writing.specs.Promise.{WritesList}
 use Rattle.lists.specs.declared.ReadList.the-variants as L
 use Rattle.claims.specs.Readers.{loop64}
-use Rattle.claims.specs.Claims.{ListBack}
+use Rattle.claims.specs.OfLists.{ListBack}
 use Rattle.claims.specs.Strict.{Words}
 use Rattle.claims.proofs.Grouped.{from-front}
 use Rattle.claims.proofs.Same.{apart, same-list}

@@ -21,7 +21,7 @@ use Rattle.uleb128_writing.specs.Unsigned.{form, u64}
 use Rattle.uleb128_writing.proofs.Forms.{form-small, form-large, form-spelled}
 use Rattle.claims.specs.Readers.{loop64}
 use Rattle.claims.specs.Source.{spec-parse-more, spec-parse, spec-serialize-within, spec-serialize-helper}
-use Rattle.claims.specs.Claims.{SpecParse}
+use Rattle.claims.specs.OfNumbers.{SpecParse}
 use Rattle.claims.proofs.Same.{apart}
 use Rattle.claims.proofs.Laws.{reading-of}
 

@@ -25,7 +25,7 @@ use Rattle.sleb128_reading.specs.Signed.{twos, form, i64}
 use Rattle.sleb128_reading.proofs.Forms.{form-spelled}
 use Rattle.sleb128_reading.proofs.Widths.{spells, pow-seven, half-seven}
 use Rattle.sleb128_reading.proofs.Exactly.{value-above, value-below, form-value}
-use Rattle.claims.specs.Claims.{Shortest, TwosComplement, Within, SignedForm}
+use Rattle.claims.specs.OfNumbers.{Shortest, TwosComplement, Within, SignedForm}
 use Rattle.claims.proofs.Laws.{within, within-mag}
 
 pub two-sentences : Shortest

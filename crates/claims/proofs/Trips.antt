@@ -20,7 +20,8 @@ use Rattle.lists_writing.specs.Lists.{list-limit, forms}
 use Rattle.lists_writing.specs.Promise.{WritesList}
 use Rattle.claims.specs.Readers.{Reader, loop64, recursive64, unsigned32, signed64, Value, number, Promised, form, OfWidth}
 use Rattle.claims.specs.Writers.{Laying}
-use Rattle.claims.specs.Claims.{LaysExactly, Writes, WritesLists, WriteRead, ReadWrite, MoreBehind, SomeByte}
+use Rattle.claims.specs.OfNumbers.{LaysExactly, Writes, WriteRead, ReadWrite, MoreBehind, SomeByte}
+use Rattle.claims.specs.OfLists.{WritesLists}
 use Rattle.claims.proofs.Same.{same-written, apart, refused-same}
 use Rattle.claims.proofs.Laws.{reading-of, number-says, read-number}
 

@@ -9,4 +9,10 @@ pub mod Readings
 pub mod Damage
 pub mod Strict
 pub mod Listing
+pub mod OfNumbers
+pub mod OfBlocks
+pub mod OfDamage
+pub mod OfLists
+pub mod OfTurns
+pub mod OfListing
 pub mod Claims

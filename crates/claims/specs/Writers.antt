@@ -2,6 +2,7 @@
 --
 --   Laying         what the function of a writer promises: the `ensures` of `write_u64`, `write_u64_rec`, `write_u32`, `write_i64`
 --   Length         what its length promises: `length_u64` (for both of 64 bits), `length_u32`, `length_i64`
+--   Both           a promise of an answer and of what is left in lent memory, of the two as one thing
 use Prim.Native.Nat.{ℕ}
 use mathlib.Core.List.{List}
 use Rattle.words.specs.declared.Count.{Count}
@@ -22,3 +23,7 @@ Length loop64 v r = LengthU64 v r
 Length recursive64 v r = LengthU64 v r
 Length unsigned32 v r = LengthU32 v r
 Length signed64 v r = LengthI64 v r
+
+-- an answer and the final content of what was lent
+abbrev pub Both : {A B : Type 0} → (A → B → Type 0) → A × B → Type 0
+Both P x = P (x .0) (x .1)

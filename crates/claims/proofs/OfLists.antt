@@ -1,0 +1,43 @@
+-- What is claimed of lists, proved.
+use Prim.Native.Nat.{ℕ}
+use mathlib.Core.Path.{sym, _∙_}
+use mathlib.Core.List.{List}
+use borrow.Author.Tests.{lt-ltb, le-ltb}
+use lib.ListN.{length}
+use Rattle.words.specs.declared.Refusal.the-variants.{TooLong}
+use Rattle.words.specs.declared.Written.{Written}
+use Rattle.words.specs.declared.Written.the-variants as W
+use Rattle.words.proofs.Cases.{by-order}
+use Rattle.lists_writing.specs.Lists.{list-limit, forms}
+use Rattle.lists_writing.specs.Promise.{WritesList}
+use Rattle.claims.proofs.Same.{same-written, same-list}
+use Rattle.claims.proofs.Strict.{row-reads, row-found as strict-found, strict-rows}
+use Rattle.claims.proofs.Trips.{writes-list}
+use Rattle.claims.proofs.Lists.{list-back}
+use Rattle.claims.proofs.Answered.{some-lays}
+use Rattle.claims.specs.Writers.{Both}
+use Rattle.claims.specs.OfLists.{OfLists}
+
+some-list : (ns s : List ℕ) (at : ℕ) → (x : Written × List ℕ) × Both (WritesList ns s at) x
+some-list ns s at =
+    by-order list-limit (length ns)
+    (λ h. let t = lt-ltb list-limit (length ns) h in ((W.Refused TooLong, s), record { answer = rw t; leaves = rw t }))
+    (λ h.
+    let t = le-ltb list-limit (length ns) h in
+    let f = some-lays (forms ns) s at in
+    (f .0, record { answer = rw t (f .1 .answer); leaves = rw t (f .1 .leaves) }))
+
+pub lists : OfLists
+lists = record {
+  strict-rows = strict-rows;
+  writes-list = writes-list;
+  list-back = list-back;
+  met = record {
+    strict = λ s old bytes. let f = strict-found s old bytes in (f .0, row-reads s old (f .0) (f .1));
+    list = some-list;
+  };
+  one = record {
+    strict = λ s old r r′ out out′ a b. (same-list r r′ (a .answer ∙ sym (b .answer)), a .leaves ∙ sym (b .leaves));
+    list = λ ns s at r r′ out out′ a b. (same-written r r′ (a .answer ∙ sym (b .answer)), a .leaves ∙ sym (b .leaves));
+  };
+}

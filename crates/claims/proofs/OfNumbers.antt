@@ -1,0 +1,121 @@
+-- What is claimed of numbers, proved.
+use Prim.Native.Nat.{ℕ, _-_, _^_, _<_}
+use mathlib.Core.Path.{_≡_, refl, ap, sym, _∙_}
+use mathlib.Core.List.{List, [], _∷_}
+use lib.ListN.{length}
+use Rattle.words.specs.Refusal.{numberOf}
+use Rattle.words.specs.declared.Count.{Count}
+use Rattle.words.specs.declared.Written.{Written}
+use Rattle.groups.specs.Form.{groups, spell, spellings}
+use Rattle.groups.specs.Promise.{walked}
+use Rattle.uleb128_writing.specs.Unsigned as unsigned
+use Rattle.sleb128_reading.specs.Signed as signed
+use Rattle.claims.specs.Readers.{Reader, loop64, recursive64, unsigned32, signed64, Value, Reply, number, refuse, Promised, width, form}
+use Rattle.claims.specs.Writers.{Laying, Length, Both}
+use Rattle.claims.proofs.Laws.{number-says, refusal-says, one-reply, accepts, refuses, excludes, exhausts, within, within-mag}
+use Rattle.claims.proofs.Trips.{lays as lays-form, writes, write-read, read-write, more-behind, some-byte}
+use Rattle.claims.proofs.Told.{read-told}
+use native.Mathlib.Nat.{lt-trans}
+use native.Mathlib.Omega.{arith}
+use lib.IntN.{pos}
+use Rattle.groups.specs.Group.{run, digits}
+use Rattle.groups.specs.Width.{runsOut, tooLarge, tooMany, reading, read}
+use Rattle.groups.proofs.Spelling.{some-bytes}
+use Rattle.uleb128_writing.proofs.Forms.{form-short, form-some}
+use Rattle.sleb128_reading.proofs.Forms.{form-spelled}
+use Rattle.claims.specs.Try.{Starred}
+use Rattle.claims.proofs.Spelled.{two-sentences, twos-complement, signed-form, one-too-many, signed-most}
+use Rattle.claims.proofs.Sources.{parse-same, serialize-same}
+use Rattle.claims.proofs.Answered.{some-lays, same-lays}
+use Rattle.claims.specs.OfNumbers.{Most, zero-of, OfNumbers}
+
+some-written : (k : Reader) (v : Value k) (s : List ℕ) (at : ℕ) → (x : Written × List ℕ) × Both (Laying k v s at) x
+some-written loop64 v s at = some-lays (unsigned.form v) s at
+some-written recursive64 v s at = some-lays (unsigned.form v) s at
+some-written unsigned32 v s at = some-lays (unsigned.form v) s at
+some-written signed64 v s at = some-lays (signed.form v) s at
+
+some-length : (k : Reader) (v : Value k) → (n : Count) × Length k v n
+some-length loop64 v = (record { 0 = length (unsigned.form v) }, record { is = refl })
+some-length recursive64 v = (record { 0 = length (unsigned.form v) }, record { is = refl })
+some-length unsigned32 v = (record { 0 = length (unsigned.form v) }, record { is = refl })
+some-length signed64 v = (record { 0 = length (signed.form v) }, record { is = refl })
+
+-- what a reader answers
+some-reply : (k : Reader) (s : List ℕ) (at : ℕ) → (r : Reply k) × Promised k s at r
+some-reply k s at =
+    read-told (width k) s at
+    (λ v n e. (number k v (record { 0 = n }), number-says k s at v (record { 0 = n }) .1 e))
+    (λ why e. (refuse k why, refusal-says k s at why .1 e))
+
+pub length-is : (k : Reader) (v : Value k) (n : Count) → Length k v n → n .0 ≡ length (form k v)
+length-is loop64 v n p = p .is
+length-is recursive64 v n p = p .is
+length-is unsigned32 v n p = p .is
+length-is signed64 v n p = p .is
+
+zero-takes-one : (k : Reader) → form k (zero-of k) ≡ 0 ∷ []
+unfolding unsigned.form signed.form spell spellings
+zero-takes-one loop64 = refl
+zero-takes-one recursive64 = refl
+zero-takes-one unsigned32 = refl
+zero-takes-one signed64 = refl
+
+most : (k : Reader) → Most k
+unfolding unsigned.form signed.form spell spellings
+most loop64 = (λ v h. form-short v 9 (lt-trans h (omega arith)), (2 ^ 64 - 1, omega arith, refl))
+most recursive64 = (λ v h. form-short v 9 (lt-trans h (omega arith)), (2 ^ 64 - 1, omega arith, refl))
+most unsigned32 = (λ v h. form-short v 4 (lt-trans h (omega arith)), (2 ^ 32 - 1, omega arith, refl))
+most signed64 = (λ v h. signed-most v (within-mag v (2 ^ 63) (omega arith) (h .0) (h .1)), (pos (2 ^ 63 - 1), within (pos (2 ^ 63 - 1)) (2 ^ 63) (omega arith), refl))
+
+some-bytes-of : (k : Reader) (v : Value k) → 0 < length (form k v)
+some-bytes-of loop64 v = form-some v
+some-bytes-of recursive64 v = form-some v
+some-bytes-of unsigned32 v = form-some v
+some-bytes-of signed64 v = some-bytes (form-spelled v)
+
+starred : Starred
+unfolding read reading runsOut tooLarge tooMany run digits signed.twos
+starred =
+    ((refl, (refl, (refl, (refl, (refl, (refl, (refl, (refl, tt)))))))), (refl, tt), (refl, (refl, (refl, (refl, tt)))))
+
+pub numbers : OfNumbers
+numbers = record {
+  accepts = accepts;
+  refuses = refuses;
+  excludes = excludes;
+  exhausts = exhausts;
+  writes = writes;
+  shortest = two-sentences;
+  lengths = length-is;
+  zero-takes-one = zero-takes-one;
+  most = most;
+  twos-complement = twos-complement;
+  signed-form = signed-form;
+  one-too-many = λ g r. one-too-many r;
+  read-alike = λ s at r r′ p q. one-reply loop64 s at r r′ p q;
+  write-alike = λ v s at r r′ out out′ p q. same-lays p q;
+  write-read = write-read;
+  read-write = read-write;
+  more-behind = more-behind;
+  some-byte = λ k. some-byte k (some-bytes-of k);
+  source-parse = parse-same;
+  source-serialize = serialize-same;
+  starred = starred;
+  met = record {
+    number = λ why. (numberOf why, record { is = refl });
+    walk = λ s at. (walked s at, record { is = refl });
+    store = λ m below n s at. some-lays (groups below n m) s at;
+    reply = some-reply;
+    written = some-written;
+    length = some-length;
+  };
+  one = record {
+    number = λ why n m p q. p .is ∙ sym (q .is);
+    walk = λ s at r r′ p q. p .is ∙ sym (q .is);
+    store = λ m below n s at r r′ out out′ p q. same-lays p q;
+    reply = λ k. one-reply k;
+    written = λ k v s at r r′ out out′ p q. same-lays (lays-form k v p) (lays-form k v q);
+    length = λ k v r r′ p q. ap (λ (n : ℕ). record { 0 = n }) (length-is k v r p ∙ sym (length-is k v r′ q));
+  };
+}

@@ -1,0 +1,202 @@
+-- What is claimed of numbers: document 01's demands 1 to 9, over the promises that the functions' `ensures` are.
+--
+--   Accepts, Refuses, Excludes, Exhausts         demand 2, readers
+--   Writes (by LaysExactly)                      demand 2, writers
+--   Shortest, Most, most-bytes, zero-of          how a number is spelled, in how many bytes, and zero
+--   TwosComplement, Within, SignedForm, OneTooMany   how a signed number is spelled
+--   WriteRead, ReadWrite, MoreBehind, SomeByte   round trips, and what the source calls prefix-secure and productive
+--   SpecParse                                    the source's own definition
+--   NumbersMet, NumbersOne                       an answer meets each promise, and no second
+--   OfNumbers                                    all of it
+use Prim.Native.Nat.{ℕ, _+_, _-_, _*_, _/_, _%_, _^_, _≤_, _<_}
+use mathlib.Core.Path.{_≡_}
+use mathlib.Core.List.{List, [], _∷_, _++_}
+use mathlib.Core.Bool.{Bool, true}
+use mathlib.Core.Logic.{_↔_, _⊎_}
+use mathlib.Core.Option.{some, none}
+use lib.IntN.{ℤ, pos, negℤ, _+ℤ_}
+use lib.Signed.{_≤ℤ_, _<ℤ_}
+use lib.ListN.{length, take, drop}
+use Rattle.words.specs.Answer.{gives, refused}
+use Rattle.words.specs.Promise.{Numbers}
+use Rattle.words.specs.declared.Count.{Count}
+use Rattle.words.specs.declared.Refusal.{Refusal}
+use Rattle.words.specs.declared.Refusal.the-variants.{NoRoom}
+use Rattle.words.specs.declared.Written.{Written}
+use Rattle.words.specs.declared.Written.the-variants as W
+use Rattle.groups.specs.Begins.{Begins}
+use Rattle.groups.specs.Group.{Bytes, Group, digits}
+use Rattle.groups.specs.Promise.{Walks}
+use Rattle.groups_writing.specs.Promise.{Stores}
+use Rattle.groups.specs.Width.{read, tooMany}
+use Rattle.groups.specs.declared.Walked.{Walked}
+use Rattle.uleb128_writing.specs.Unsigned as unsigned
+use Rattle.uleb128_reading.specs.Promise.{ReadsU64}
+use Rattle.uleb128_writing.specs.Promise.{WritesU64}
+use Rattle.uleb128_recursive.specs.Promise.{ReadsU64Rec}
+use Rattle.uleb128_recursive_writing.specs.Promise.{WritesU64Rec}
+use Rattle.uleb128_reading.specs.declared.ReadU64.{ReadU64}
+use Rattle.sleb128_reading.specs.Signed as signed
+use Rattle.claims.specs.Readers.{Reader, loop64, recursive64, unsigned32, signed64, Value, Reply, number, refuse, Promised, width, form, OfWidth}
+use Rattle.claims.specs.Writers.{Laying, Length, Both}
+use Rattle.claims.specs.Table.{Row}
+use Rattle.claims.specs.Source.{spec-parse, spec-serialize-helper}
+use Rattle.claims.specs.Try.{Starred}
+
+-- 1. A reader accepts with v and n exactly when the bytes from the start begin with the shortest form of a number of the width, v is that
+-- number and n the length of its form.
+abbrev pub Accepts : Reader → Type 0
+Accepts k = (s : List ℕ) (at : ℕ) (r : Reply k) → Bytes s → Promised k s at r
+    → (v : Value k) (n : Count) → (r ≡ number k v n) ↔ Begins (form k) (OfWidth k) s at v (n .0)
+
+-- 2. It refuses by a number exactly when the row of that number holds; no two rows hold, and none where it accepts; and one holds or
+-- it accepts.
+abbrev pub Refuses : Reader → Type 0
+Refuses k = (s : List ℕ) (at : ℕ) (r : Reply k) → Bytes s → Promised k s at r
+    → (why : Refusal) → (r ≡ refuse k why) ↔ Row (width k) s at why
+
+abbrev pub Excludes : Reader → Type 0
+Excludes k = (s : List ℕ) (at : ℕ) →
+    ((a b : Refusal) → Row (width k) s at a → Row (width k) s at b → a ≡ b)
+    × ((a : Refusal) (v : Value k) (n : ℕ) → Row (width k) s at a → Begins (form k) (OfWidth k) s at v n → ⊥)
+
+abbrev pub Exhausts : Reader → Type 0
+Exhausts k = (s : List ℕ) (at : ℕ) → Bytes s →
+    ((why : Refusal) × Row (width k) s at why) ⊎ ((v : Value k) × (n : ℕ) × Begins (form k) (OfWidth k) s at v n)
+
+-- 3. A writer answers the count and leaves exactly the form at the place and all else kept, or answers 5 and leaves every byte, the
+-- latter exactly when place + bytes needed > buffer length.
+abbrev pub LaysExactly : (bytes before : List ℕ) (at : ℕ) (r : Written) (after : List ℕ) → Type 0
+LaysExactly bytes before at r after =
+    ((at + length bytes ≤ length before)
+    ↔ ((r ≡ W.Bytes (record { 0 = length bytes })) × (after ≡ take at before ++ bytes ++ drop (at + length bytes) before)))
+    × ((length before < at + length bytes) ↔ ((r ≡ W.Refused NoRoom) × (after ≡ before)))
+    × (length after ≡ length before)
+
+abbrev pub Writes : Reader → Type 0
+Writes k = (v : Value k) (before : List ℕ) (at : ℕ) (r : Written) (after : List ℕ) → Laying k v before at r after
+    → LaysExactly (form k v) before at r after
+
+-- 4. The shortest unsigned form: one byte v if v < 128, else (v mod 128) + 128 followed by the form of v div 128.
+abbrev pub Shortest : Type 0
+Shortest = (v : ℕ) → (v < 128 → unsigned.form v ≡ v ∷ []) × (128 ≤ v → unsigned.form v ≡ (v % 128 + 128) ∷ unsigned.form (v / 128))
+
+-- The most bytes of each width, which some number takes.
+abbrev pub most-bytes : Reader → ℕ
+most-bytes loop64 = 10
+most-bytes recursive64 = 10
+most-bytes unsigned32 = 5
+most-bytes signed64 = 10
+
+abbrev pub Most : Reader → Type 0
+Most k = ((v : Value k) → OfWidth k v → length (form k v) ≤ most-bytes k) × ((v : Value k) × OfWidth k v × (length (form k v) ≡ most-bytes k))
+
+abbrev pub zero-of : (k : Reader) → Value k
+zero-of loop64 = 0
+zero-of recursive64 = 0
+zero-of unsigned32 = 0
+zero-of signed64 = pos 0
+
+-- 5. A signed form of k bytes has the value of its 7k bits in two's complement.
+abbrev pub TwosComplement : Type 0
+TwosComplement = (g : List ℕ) →
+    (digits g < 2 ^ (7 * length g - 1) → signed.i64 .value g ≡ pos (digits g))
+    × (2 ^ (7 * length g - 1) ≤ digits g → signed.i64 .value g +ℤ pos (2 ^ (7 * length g)) ≡ pos (digits g))
+
+-- -2^(7k-1) <= v < 2^(7k-1)
+pub record Within (k : ℕ) (v : ℤ) : Type 0 where
+  pub from : negℤ (pos (2 ^ (7 * k - 1))) ≤ℤ v
+  pub to : v <ℤ pos (2 ^ (7 * k - 1))
+
+-- The shortest form has the value v, in the smallest k bytes that v lies within, and no other group has; so a last byte is one too many,
+-- by document 01's rule, exactly where the form of the same value is shorter.
+pub record SignedForm (v : ℤ) : Type 0 where
+  pub is-group : Group (signed.form v)
+  pub value : signed.i64 .value (signed.form v) ≡ v
+  pub within : Within (length (signed.form v)) v
+  pub smallest : (k : ℕ) → 0 < k → Within k v → length (signed.form v) ≤ k
+  pub only : (g : List ℕ) → Group g → signed.i64 .value g ≡ v → length g ≡ length (signed.form v) → g ≡ signed.form v
+
+abbrev pub OneTooMany : Type 0
+OneTooMany = (g : List ℕ) → Group g → (tooMany signed.i64 g ≡ true) ↔ (length (signed.form (signed.i64 .value g)) < length g)
+
+-- 7. Write then read gives the number back.
+abbrev pub WriteRead : Reader → Type 0
+WriteRead k = (v : Value k) (before : List ℕ) (at : ℕ) (n : Count) (after : List ℕ) (r : Reply k) → OfWidth k v
+    → Laying k v before at (W.Bytes n) after → Promised k after at r → r ≡ number k v n
+
+-- Read then write gives the bytes back.
+abbrev pub ReadWrite : Reader → Type 0
+ReadWrite k = (s : List ℕ) (at : ℕ) (v : Value k) (n : Count) (r : Written) (after : List ℕ) → Bytes s
+    → Promised k s at (number k v n) → Laying k v s at r after → (r ≡ W.Bytes n) × (after ≡ s)
+
+-- More bytes behind an accepted number change nothing.
+abbrev pub MoreBehind : Reader → Type 0
+MoreBehind k = (s more : List ℕ) (at : ℕ) (v : Value k) (n : Count) (r : Reply k) → Bytes s
+    → Promised k s at (number k v n) → Promised k (s ++ more) at r → r ≡ number k v n
+
+-- At least one byte is taken, and no more than are there.
+abbrev pub SomeByte : Reader → Type 0
+SomeByte k = (s : List ℕ) (at : ℕ) (v : Value k) (n : Count) → Bytes s → Promised k s at (number k v n)
+    → (0 < n .0) × (at + n .0 ≤ length s)
+
+-- 8. `spec_parse` gives what the reading gives, and nothing exactly where it refuses.
+abbrev pub SpecParse : Type 0
+SpecParse = (s : List ℕ) → Bytes s →
+    ((v n : ℕ) → (spec-parse s ≡ some (n, v)) ↔ (read unsigned.u64 s 0 ≡ gives (v, n)))
+    × ((spec-parse s ≡ none) ↔ ((why : ℕ) × (read unsigned.u64 s 0 ≡ refused why)))
+
+-- Each promise is met by some answer, with some final content of what was lent, on every input: no claim over promises is empty.
+pub record NumbersMet : Type 0 where
+  pub number : (why : Refusal) → (n : ℕ) × Numbers why n
+  pub walk : (s : List ℕ) (at : ℕ) → (r : Walked) × Walks s at r
+  pub store : (m : ℕ) (below : Bool) (n : ℕ) (s : List ℕ) (at : ℕ) → (x : Written × List ℕ) × Both (Stores m below n s at) x
+  pub reply : (k : Reader) (s : List ℕ) (at : ℕ) → (r : Reply k) × Promised k s at r
+  pub written : (k : Reader) (v : Value k) (s : List ℕ) (at : ℕ) → (x : Written × List ℕ) × Both (Laying k v s at) x
+  pub length : (k : Reader) (v : Value k) → (n : Count) × Length k v n
+
+-- And by no second: no second answer, and no second final content of what was lent.
+pub record NumbersOne : Type 0 where
+  pub number : (why : Refusal) (n m : ℕ) → Numbers why n → Numbers why m → n ≡ m
+  pub walk : (s : List ℕ) (at : ℕ) (r r′ : Walked) → Walks s at r → Walks s at r′ → r ≡ r′
+  pub store : (m : ℕ) (below : Bool) (n : ℕ) (s : List ℕ) (at : ℕ) (r r′ : Written) (out out′ : List ℕ)
+      → Stores m below n s at r out → Stores m below n s at r′ out′ → (r ≡ r′) × (out ≡ out′)
+  pub reply : (k : Reader) (s : List ℕ) (at : ℕ) (r r′ : Reply k) → Promised k s at r → Promised k s at r′ → r ≡ r′
+  pub written : (k : Reader) (v : Value k) (s : List ℕ) (at : ℕ) (r r′ : Written) (out out′ : List ℕ)
+      → Laying k v s at r out → Laying k v s at r′ out′ → (r ≡ r′) × (out ≡ out′)
+  pub length : (k : Reader) (v : Value k) (r r′ : Count) → Length k v r → Length k v r′ → r ≡ r′
+
+pub record OfNumbers : Type 0 where
+  -- 1, 2. readers
+  pub accepts : (k : Reader) → Accepts k
+  pub refuses : (k : Reader) → Refuses k
+  pub excludes : (k : Reader) → Excludes k
+  pub exhausts : (k : Reader) → Exhausts k
+  -- 3. writers
+  pub writes : (k : Reader) → Writes k
+  -- 4. lengths
+  pub shortest : Shortest
+  pub lengths : (k : Reader) (v : Value k) (n : Count) → Length k v n → n .0 ≡ length (form k v)
+  pub zero-takes-one : (k : Reader) → form k (zero-of k) ≡ 0 ∷ []
+  pub most : (k : Reader) → Most k
+  -- 5. signed forms
+  pub twos-complement : TwosComplement
+  pub signed-form : (v : ℤ) → SignedForm v
+  pub one-too-many : OneTooMany
+  -- 6. loop and recursive forms
+  pub read-alike : (s : List ℕ) (at : ℕ) (r r′ : ReadU64) → ReadsU64 s at r → ReadsU64Rec s at r′ → r ≡ r′
+  pub write-alike : (v : ℕ) (s : List ℕ) (at : ℕ) (r r′ : Written) (out out′ : List ℕ) → WritesU64 v s at r out → WritesU64Rec v s at r′ out′
+      → (r ≡ r′) × (out ≡ out′)
+  -- 7. round trips
+  pub write-read : (k : Reader) → WriteRead k
+  pub read-write : (k : Reader) → ReadWrite k
+  pub more-behind : (k : Reader) → MoreBehind k
+  pub some-byte : (k : Reader) → SomeByte k
+  -- 8. the source's definitions
+  pub source-parse : SpecParse
+  pub source-serialize : (v : ℕ) → spec-serialize-helper v ≡ unsigned.form v
+  -- 9. bytes to try
+  pub starred : Starred
+  -- 10. an answer, and no second
+  pub met : NumbersMet
+  pub one : NumbersOne
