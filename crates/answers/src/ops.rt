@@ -48,7 +48,7 @@ fn read_i64(answer: ReadI64) -> Line {
 fn read(op: u8, bytes: &[u8], start: Place) -> Line {
     match op {
         1 => read_u64(uleb128::read_u64(bytes, start)),
-        2 => read_u64(uleb128::read_u64_rec(bytes, start)),
+        2 => read_u64(uleb128_rec::read_u64_rec(bytes, start)),
         3 => read_u32(uleb128::read_u32(bytes, start)),
         _ => read_i64(sleb128::read_i64(bytes, start)),
     }
@@ -100,7 +100,7 @@ fn write(op: u8, a: u64, b: u64, bytes: &mut [u8]) -> Written {
     let place = Place(b as usize);
     match op {
         5 => uleb128::write_u64(a, bytes, place),
-        6 => uleb128::write_u64_rec(a, bytes, place),
+        6 => uleb128_rec::write_u64_rec(a, bytes, place),
         7 => uleb128::write_u32(narrow(a), bytes, place),
         8 => sleb128::write_i64(signs::from_bits(a), bytes, place),
         _ => list_ops::write_list(b as usize, bytes, Place(a as usize)),

@@ -13,7 +13,7 @@ use Rattle.words.specs.declared.Refusal.the-variants as Why
 use Rattle.groups.specs.Group.{run}
 use Rattle.groups.proofs.Run.{run-within}
 use Rattle.blocks.specs.Block.{block-limit, isStart, Val, finished, readBy, says, saysBy, stepping, settingDown}
-use Rattle.blocks.specs.Promise.{meaning, Steps, SetsDown}
+use Rattle.blocks.specs.Promise.{meansStep, Steps, SetsDown}
 use Rattle.blocks.specs.declared.Cursor.{Cursor}
 use Rattle.blocks.specs.declared.Rule.{Rule}
 use Rattle.blocks.specs.declared.Step.{Step}
@@ -71,7 +71,7 @@ module _ (rule : Rule) (s : List ℕ) (p : ℕ) where
             )
 
         pub step-group : {r : Step} {a : Answer Val} {n : ℕ} → p + run (drop p s) < length s → n ≡ run (drop p s) + 1
-            → a ≡ readBy rule (take (run (drop p s) + 1) (drop p s)) → meaning r ≡ says a n p → Steps rule s p r
+            → a ≡ readBy rule (take (run (drop p s) + 1) (drop p s)) → meansStep r ≡ says a n p → Steps rule s p r
         step-group {a = a} h c e q =
             let size = length-take-le (run (drop p s) + 1) (drop p s) (omega (arith, length-drop p s)) in
             record { is = q ∙ ap (λ (i : ℕ). says a i p) (c ∙ sym size) ∙ ap (λ (b : Answer Val). says b (length (take (run (drop p s) + 1) (drop p s))) p) e ∙ sym (group-says h) }

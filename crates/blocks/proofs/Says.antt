@@ -14,8 +14,8 @@ use Rattle.groups.specs.Group.{Bytes, run}
 use Rattle.groups.specs.Width.{Width, reading, read}
 use Rattle.groups.proofs.Rows.{read-from}
 use Rattle.groups.proofs.Standing.{alone}
-use Rattle.uleb128_writing.specs.Unsigned.{u64}
-use Rattle.sleb128_reading.specs.Signed.{i64}
+use Rattle.uleb128.specs.Unsigned.{u64}
+use Rattle.sleb128.specs.Signed.{i64}
 use Rattle.blocks.specs.Block.{Val, unsigned, signed, number, gap, valued, readBy, says}
 use Rattle.blocks.specs.Inner.{read-by}
 use Rattle.blocks.specs.declared.Rule.{Rule}

@@ -17,8 +17,8 @@ use lib.ListN.{length, getD, take, drop}
 use Rattle.words.specs.Answer.{pick, Answer, gives, refused}
 use Rattle.groups.specs.Group.{run}
 use Rattle.groups.specs.Width.{reading}
-use Rattle.uleb128_writing.specs.Unsigned.{u64}
-use Rattle.sleb128_reading.specs.Signed.{i64, either}
+use Rattle.uleb128.specs.Unsigned.{u64}
+use Rattle.sleb128.specs.Signed.{i64, either}
 use Rattle.blocks.specs.declared.Rule.{Rule}
 use Rattle.blocks.specs.declared.Rule.the-variants.{Unsigned, Signed}
 

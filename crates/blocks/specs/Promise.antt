@@ -1,7 +1,7 @@
 -- What the functions of this crate promise.
 --
---   valueOf               the number that a step gives, by its rule
---   meaning, meaningSet   what the answers of a step and of a set-down say
+--   meansValue               the number that a step gives, by its rule
+--   meansStep, meansSetDown   what the answers of a step and of a set-down say
 --   Steps                 a step of a cursor at the place p of the block s, by the rule
 --   SetsDown              set-down at the place p of the block s
 use Prim.Native.Nat.{ℕ}
@@ -18,23 +18,23 @@ use Rattle.blocks.specs.declared.Step.the-variants as S
 use Rattle.blocks.specs.declared.SetDown.{SetDown}
 use Rattle.blocks.specs.declared.SetDown.the-variants as D
 
-abbrev pub valueOf : Value → Val
-valueOf (N.Unsigned v) = unsigned v
-valueOf (N.Signed v) = signed v
+abbrev pub meansValue : Value → Val
+meansValue (N.Unsigned v) = unsigned v
+meansValue (N.Signed v) = signed v
 
-abbrev pub meaning : Step → Stepped
-meaning (S.Number v n c) = number (valueOf v) (n .0) (c .place .0)
-meaning (S.Gap why n c) = gap (numberOf why) (n .0) (c .place .0)
-meaning (S.Tail n c) = tail (n .0) (c .place .0)
-meaning (S.Finished c) = finished (c .place .0)
-meaning (S.Refused why) = refuses (numberOf why)
+abbrev pub meansStep : Step → Stepped
+meansStep (S.Number v n c) = number (meansValue v) (n .0) (c .place .0)
+meansStep (S.Gap why n c) = gap (numberOf why) (n .0) (c .place .0)
+meansStep (S.Tail n c) = tail (n .0) (c .place .0)
+meansStep (S.Finished c) = finished (c .place .0)
+meansStep (S.Refused why) = refuses (numberOf why)
 
-abbrev pub meaningSet : SetDown → Answer ℕ
-meaningSet (D.At c) = gives (c .place .0)
-meaningSet (D.Refused why) = refused (numberOf why)
+abbrev pub meansSetDown : SetDown → Answer ℕ
+meansSetDown (D.At c) = gives (c .place .0)
+meansSetDown (D.Refused why) = refused (numberOf why)
 
 pub record Steps (rule : Rule) (s : List ℕ) (p : ℕ) (r : Step) : Type 0 where
-  pub is : meaning r ≡ stepping rule s p
+  pub is : meansStep r ≡ stepping rule s p
 
 pub record SetsDown (s : List ℕ) (p : ℕ) (r : SetDown) : Type 0 where
-  pub is : meaningSet r ≡ settingDown s p
+  pub is : meansSetDown r ≡ settingDown s p

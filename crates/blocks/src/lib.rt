@@ -1,8 +1,8 @@
 // Blocks: a run of groups and a tail. A cursor steps through it, a group at a time; set-down finds where to begin.
-use sleb128_reading::ReadI64;
-use sleb128_reading::read_i64;
-use uleb128_reading::ReadU64;
-use uleb128_reading::read_u64;
+use sleb128::ReadI64;
+use sleb128::read_i64;
+use uleb128::ReadU64;
+use uleb128::read_u64;
 use words::Count;
 use words::Place;
 use words::Refusal;
@@ -11,8 +11,8 @@ ghost use Prim.Native.Nat.{_+_, _^_, _<_, _≤_};
 ghost use lib.ListN.{length, drop};
 ghost use Rattle.groups.specs.Group.{run};
 ghost use Rattle.blocks.specs.Block.{isStart, says};
-ghost use Rattle.blocks.specs.Inner.{meaningReading, ReadsBy};
-ghost use Rattle.blocks.specs.Promise.{meaning, Steps, SetsDown};
+ghost use Rattle.blocks.specs.Inner.{meansReading, ReadsBy};
+ghost use Rattle.blocks.specs.Promise.{meansStep, Steps, SetsDown};
 
 // The most bytes of a block.
 pub const BLOCK_LIMIT: usize = 4096;
@@ -125,7 +125,7 @@ fn read_by(rule: Rule, block: &[u8], at: usize) -> Reading
 // What a step says of a group of count bytes with this reading: a number, or else a gap, over the whole group.
 fn group(reading: Reading, at: usize, count: usize) -> Step
     requires { ⌜ at + count < 2 ^ 64 ⌝ }
-    ensures { λ r. ⌜ meaning r ≡ says (meaningReading reading) count at ⌝ }
+    ensures { λ r. ⌜ meansStep r ≡ says (meansReading reading) count at ⌝ }
 {
     let next = past(at, count);
     match reading {

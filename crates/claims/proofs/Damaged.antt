@@ -10,7 +10,7 @@ use Rattle.words.specs.Answer.{Answer}
 use Rattle.words.proofs.Cases.{by-test}
 use Rattle.groups.specs.Group.{run}
 use Rattle.blocks.specs.Block.{Val, saysBy}
-use Rattle.blocks.specs.Promise.{meaning, Steps}
+use Rattle.blocks.specs.Promise.{meansStep, Steps}
 use Rattle.blocks.specs.declared.Step.{Step}
 use Rattle.blocks.specs.GroupsAndTail.{cut}
 use Rattle.blocks.proofs.Cuts.{total, all-bytes, Some, some-each}
@@ -26,7 +26,7 @@ use Rattle.claims.proofs.Same.{same-step}
 use Rattle.claims.proofs.Stepped.{says-group}
 
 -- a step says of a group what its own bytes say
-said : {rule : Rule} {s : List ℕ} {p : ℕ} {g : List ℕ} {r : Step} → Block s → GroupAt s p g → Steps rule s p r → meaning r ≡ saysBy rule g p
+said : {rule : Rule} {s : List ℕ} {p : ℕ} {g : List ℕ} {r : Step} → Block s → GroupAt s p g → Steps rule s p r → meansStep r ≡ saysBy rule g p
 said {rule} {s} {p} {g} block k w = w .is ∙ sym (says-group rule s p g (block .short) k)
 
 pub front : Front

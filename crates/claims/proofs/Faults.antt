@@ -20,8 +20,8 @@ use Rattle.groups.specs.Width.{reading}
 use Rattle.groups.proofs.Exact.{group-length}
 use Rattle.groups.proofs.Run.{run-within}
 use Rattle.groups.proofs.Standing.{front-group, reading-count, run-behind}
-use Rattle.uleb128_writing.specs.Unsigned.{form, u64}
-use Rattle.lists_writing.specs.Lists.{forms}
+use Rattle.uleb128.specs.Unsigned.{form, u64}
+use Rattle.lists.specs.Lists.{forms}
 use Rattle.lists.specs.Strict.{joined, numbers}
 use Rattle.lists.proofs.Fronts.{numbers-group, numbers-tail, numbers-none}
 use Rattle.claims.specs.Readers.{loop64, OfWidth}

@@ -19,14 +19,14 @@ use Rattle.groups.specs.Form.{spell, spellings}
 use Rattle.groups.specs.Group.{Bytes, Group, one, run, digits}
 use Rattle.groups.specs.Laying.{writing, laid}
 use Rattle.groups.specs.Width.{runsOut, tooLarge, tooMany, reading, read}
-use Rattle.uleb128_writing.specs.Unsigned as unsigned
-use Rattle.sleb128_reading.specs.Signed as signed
+use Rattle.uleb128.specs.Unsigned as unsigned
+use Rattle.sleb128.specs.Signed as signed
 use Rattle.blocks.specs.Block.{settingDown}
 use Rattle.blocks.specs.Promise.{SetsDown}
 use Rattle.blocks.specs.declared.Cursor.{Cursor}
 use Rattle.blocks.specs.declared.SetDown.the-variants as D
-use Rattle.lists_writing.specs.Lists.{forms}
-use Rattle.lists_writing.specs.Promise.{WritesList}
+use Rattle.lists.specs.Lists.{forms}
+use Rattle.lists.specs.Promise.{WritesList}
 use Rattle.claims.specs.Readers.{Reader, loop64, recursive64, unsigned32, signed64, number, Promised, width}
 use Rattle.claims.specs.Writers.{Laying}
 use Rattle.claims.specs.Blocks.{GroupAt}

@@ -17,11 +17,11 @@ use Rattle.groups.specs.Width.{Width, read, Due}
 use Rattle.groups.proofs.Rows.{keeps}
 use Rattle.groups.proofs.Walks.{Sound}
 use Rattle.groups.proofs.Standing.{Stands, standing}
-use Rattle.uleb128_writing.specs.Unsigned as unsigned
-use Rattle.uleb128_reading.proofs.Widths as unsigned-widths
-use Rattle.uleb128_reading.proofs.Exactly.{Under, read-begins, begins-read}
-use Rattle.sleb128_reading.proofs.Widths as signed-widths
-use Rattle.sleb128_reading.proofs.Exactly as signed-exactly
+use Rattle.uleb128.specs.Unsigned as unsigned
+use Rattle.uleb128.proofs.Widths as unsigned-widths
+use Rattle.uleb128.proofs.Exactly.{Under, read-begins, begins-read}
+use Rattle.sleb128.proofs.Widths as signed-widths
+use Rattle.sleb128.proofs.Exactly as signed-exactly
 use Rattle.claims.specs.Readers.{Reader, loop64, recursive64, unsigned32, signed64, Value, Reply, number, refuse, Promised, width, form, OfWidth}
 use Rattle.claims.specs.Table.{Row}
 use Rattle.claims.specs.OfNumbers.{Accepts, Refuses, Excludes, Exhausts}

@@ -14,13 +14,13 @@ use Rattle.words.specs.declared.Count.{Count}
 use Rattle.words.proofs.Cases.{by-order}
 use Rattle.blocks.specs.Block.{block-limit}
 use Rattle.listing.specs.Listing.{text, Stage, top, at, ended, Coming, line, lineOf, line-room, next}
-use Rattle.listing.specs.Promise.{stageOf, meaning, asked, counted, fronted, GivesLine}
+use Rattle.listing.specs.Promise.{meansListing, meansNext, asked, counted, fronted, GivesLine}
 use Rattle.listing.specs.declared.Listing.{Listing}
 use Rattle.listing.specs.declared.Listing.the-variants as L
 use Rattle.listing.specs.declared.Next.{Next}
 use Rattle.listing.specs.declared.Next.the-variants as X
 use Rattle.words.specs.declared.Refusal.the-variants.{NoRoom}
-use Rattle.blocks.specs.Promise.{meaning as meaningStep}
+use Rattle.blocks.specs.Promise.{meansStep}
 use Rattle.blocks.specs.declared.Rule.the-variants.{Unsigned}
 use Rattle.blocks.specs.declared.Step.{Step}
 use Rattle.blocks.specs.declared.Step.the-variants as S
@@ -38,7 +38,7 @@ use Rattle.listing.specs.Listing.{row, rows}
 use Rattle.claims.specs.Listing.{Given, none, more, Lists, FrontEnough, Document}
 
 module _ (s : List ℕ) where
-  given-left : (g : Listing) (t : List ℕ) → Fine s (stageOf g) → Given s g t → t ≡ left s (stageOf g)
+  given-left : (g : Listing) (t : List ℕ) → Fine s (meansListing g) → Given s g t → t ≡ left s (meansListing g)
   given-left g _ fine (none _ before after room e) = sym (nothing-left fine room e)
   given-left g _ fine (more _ g′ n before after t room e rest) =
       let k = took fine e refl in rw (given-left g′ t (k .fine) rest) (sym (k .goes-on))
@@ -52,7 +52,7 @@ listingAt top = L.Top
 listingAt (at p) = L.At (record { place = record { 0 = p } })
 listingAt ended = L.Ended
 
-staged : (g : Stage) → stageOf (listingAt g) ≡ g
+staged : (g : Stage) → meansListing (listingAt g) ≡ g
 staged top = refl
 staged (at p) = refl
 staged ended = refl
@@ -70,7 +70,7 @@ module _ (s : List ℕ) (g : Stage) where
       let n : Count = record { 0 = length l } in
       let after = l ++ drop (length l) (buffer l) in
       let room : line-room ≤ length (buffer l) = omega (arith, length-replicate {A = ℕ} (line-room + length l) 0) in
-      let next-line : next s (stageOf (listingAt g)) ≡ line l (stageOf (listingAt g′)) = rw (staged g, staged g′) e in
+      let next-line : next s (meansListing (listingAt g)) ≡ line l (meansListing (listingAt g′)) = rw (staged g, staged g′) e in
       rw (f, ← (take-append-seam l (drop (length l) (buffer l))))
       (more (listingAt g) (listingAt g′) n (buffer l) after (left s g′) room (Lines.fronts room next-line) (rest g′ fine falls))
 
@@ -102,12 +102,12 @@ document = record { document = refl; mended = refl; empty = refl }
 
 -- what is said of what comes next
 abbrev Sayable : Coming ℕ → Type 0
-Sayable x = (r : Next) × (meaning r ≡ x)
+Sayable x = (r : Next) × (meansNext r ≡ x)
 
 say-line : (n : ℕ) (g : Stage) → Sayable (line n g)
 say-line n g = (X.Line (record { 0 = n }) (listingAt g), rw (staged g))
 
-said-at : (p : ℕ) (r : Step) → Sayable (counted (lineOf p (meaningStep r)))
+said-at : (p : ℕ) (r : Step) → Sayable (counted (lineOf p (meansStep r)))
 said-at p (S.Number (N.Unsigned v) n c) = say-line _ (at (c .place .0))
 said-at p (S.Number (N.Signed v) n c) = (X.Ended, refl)
 said-at p (S.Gap why n c) = say-line _ (at (c .place .0))
@@ -124,8 +124,8 @@ said-next s (at p) bytes =
     rw (← (w .is)) (said-at p (f .0))
 said-next s ended bytes = (X.Ended, refl)
 
-pub found-line : (g : Listing) (s before : List ℕ) → Bytes s → (r : Next) × GivesLine g s before r (fronted (asked s (stageOf g) (length before)) before)
+pub found-line : (g : Listing) (s before : List ℕ) → Bytes s → (r : Next) × GivesLine g s before r (fronted (asked s (meansListing g) (length before)) before)
 found-line g s before bytes =
     by-order (length before) line-room
     (λ h. (X.Refused NoRoom, record { answer = rw (lt-ltb (length before) line-room h); leaves = refl }))
-    (λ h. let f = said-next s (stageOf g) bytes in (f .0, record { answer = rw (le-ltb (length before) line-room h) (f .1); leaves = refl }))
+    (λ h. let f = said-next s (meansListing g) bytes in (f .0, record { answer = rw (le-ltb (length before) line-room h) (f .1); leaves = refl }))

@@ -6,7 +6,7 @@ use native.Mathlib.Omega.{arith}
 use lib.ListN.{length, take, drop, length-append}
 use lib.Seq.{length-take-le, drop-append-seam, take-append-seam}
 use borrow.Author.Tests.{le-leb, le-ltb}
-use Rattle.words.specs.Answer.{gives, meaning}
+use Rattle.words.specs.Answer.{gives, meansWritten}
 use Rattle.words.specs.declared.Count.{Count}
 use Rattle.words.specs.declared.Written.the-variants as W
 use Rattle.words.proofs.Cases.{by-order}
@@ -14,11 +14,11 @@ use Rattle.blocks.specs.Block.{block-limit}
 use Rattle.groups.specs.Group.{run}
 use Rattle.groups.specs.Width.{reading}
 use Rattle.groups.proofs.Standing.{reading-count}
-use Rattle.uleb128_writing.specs.Unsigned.{form, u64}
-use Rattle.lists_writing.specs.Lists.{list-limit, forms}
+use Rattle.uleb128.specs.Unsigned.{form, u64}
+use Rattle.lists.specs.Lists.{list-limit, forms}
 use Rattle.lists.specs.Strict.{joined, numbers, strict, filled}
 use Rattle.lists.proofs.Fronts.{numbers-group, numbers-none}
-use Rattle.lists_writing.specs.Promise.{WritesList}
+use Rattle.lists.specs.Promise.{WritesList}
 use Rattle.lists.specs.declared.ReadList.the-variants as L
 use Rattle.claims.specs.Readers.{loop64}
 use Rattle.claims.specs.OfLists.{ListBack}
@@ -70,12 +70,12 @@ written-there : (ns before : List ℕ) (at : ℕ) (n : Count) (after : List ℕ)
     → (n .0 ≡ length (forms ns)) × (take (n .0) (drop at after) ≡ forms ns)
 written-there ns before at n after w =
     let rows = writes-list ns before at (W.Bytes n) after w in
-    by-order list-limit (length ns) (λ h. apart (ap meaning (rows .0 .0 h .0)))
+    by-order list-limit (length ns) (λ h. apart (ap meansWritten (rows .0 .0 h .0)))
     (λ short. by-order (length before) (at + length (forms ns))
-    (λ h. apart (ap meaning (rows .1 short .1 .0 h .0)))
+    (λ h. apart (ap meansWritten (rows .1 short .1 .0 h .0)))
     (λ h.
     let q = rows .1 short .0 .0 h in
-    let k : gives (n .0) ≡ gives (length (forms ns)) = ap meaning (q .0) in
+    let k : gives (n .0) ≡ gives (length (forms ns)) = ap meansWritten (q .0) in
     let m : n .0 ≡ length (forms ns) = cc in
     let a : length (take at before) ≡ at = length-take-le at before (omega arith) in
     let rest = drop (at + length (forms ns)) before in

@@ -3,7 +3,7 @@ use Prim.Native.Nat.{_+_, _-_}
 use mathlib.Core.Path.{refl, sym, _∙_}
 use lib.ListN.{length, take}
 use lib.Seq.{sets}
-use Rattle.listing.specs.Promise.{stageOf, asked, fronted}
+use Rattle.listing.specs.Promise.{meansListing, asked, fronted}
 use Rattle.claims.proofs.Same.{same-next}
 use Rattle.claims.proofs.Listings.{found-line, lists, enough, document}
 use Rattle.texts.proofs.Decimals.{decimal-small, decimal-large}
@@ -17,7 +17,7 @@ listing = record {
   listing-document = document;
   met = record {
     text = λ t s at. ((at + length (take (length s - at) t), sets s at (take (length s - at) t)), record { place = refl; bytes = refl });
-    line = λ g s before bytes. let f = found-line g s before bytes in ((f .0, fronted (asked s (stageOf g) (length before)) before), f .1);
+    line = λ g s before bytes. let f = found-line g s before bytes in ((f .0, fronted (asked s (meansListing g) (length before)) before), f .1);
   };
   one = record {
     text = λ t s at r r′ out out′ a b. (a .place ∙ sym (b .place), a .bytes ∙ sym (b .bytes));

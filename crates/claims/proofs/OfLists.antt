@@ -8,8 +8,8 @@ use Rattle.words.specs.declared.Refusal.the-variants.{TooLong}
 use Rattle.words.specs.declared.Written.{Written}
 use Rattle.words.specs.declared.Written.the-variants as W
 use Rattle.words.proofs.Cases.{by-order}
-use Rattle.lists_writing.specs.Lists.{list-limit, forms}
-use Rattle.lists_writing.specs.Promise.{WritesList}
+use Rattle.lists.specs.Lists.{list-limit, forms}
+use Rattle.lists.specs.Promise.{WritesList}
 use Rattle.claims.proofs.Same.{same-written, same-list}
 use Rattle.claims.proofs.Strict.{row-reads, row-found as strict-found, strict-rows}
 use Rattle.claims.proofs.Trips.{writes-list}

@@ -8,8 +8,8 @@ use Rattle.words.specs.declared.Count.{Count}
 use Rattle.words.specs.declared.Written.{Written}
 use Rattle.groups.specs.Form.{groups, spell, spellings}
 use Rattle.groups.specs.Promise.{walked}
-use Rattle.uleb128_writing.specs.Unsigned as unsigned
-use Rattle.sleb128_reading.specs.Signed as signed
+use Rattle.uleb128.specs.Unsigned as unsigned
+use Rattle.sleb128.specs.Signed as signed
 use Rattle.claims.specs.Readers.{Reader, loop64, recursive64, unsigned32, signed64, Value, Reply, number, refuse, Promised, width, form}
 use Rattle.claims.specs.Writers.{Laying, Length, Both}
 use Rattle.claims.proofs.Laws.{number-says, refusal-says, one-reply, accepts, refuses, excludes, exhausts, within, within-mag}
@@ -21,8 +21,8 @@ use lib.IntN.{pos}
 use Rattle.groups.specs.Group.{run, digits}
 use Rattle.groups.specs.Width.{runsOut, tooLarge, tooMany, reading, read}
 use Rattle.groups.proofs.Spelling.{some-bytes}
-use Rattle.uleb128_writing.proofs.Forms.{form-short, form-some}
-use Rattle.sleb128_reading.proofs.Forms.{form-spelled}
+use Rattle.uleb128.proofs.Forms.{form-short, form-some}
+use Rattle.sleb128.proofs.Forms.{form-spelled}
 use Rattle.claims.specs.Try.{Starred}
 use Rattle.claims.proofs.Spelled.{two-sentences, twos-complement, signed-form, one-too-many, signed-most}
 use Rattle.claims.proofs.Sources.{parse-same, serialize-same}

@@ -18,7 +18,7 @@ use Rattle.groups.specs.Group.{run}
 use Rattle.groups.proofs.Exact.{group-length}
 use Rattle.groups.proofs.Run.{at-run, run-within}
 use Rattle.blocks.specs.Block.{Val, readBy}
-use Rattle.blocks.specs.Promise.{valueOf}
+use Rattle.blocks.specs.Promise.{meansValue}
 use Rattle.blocks.specs.GroupsAndTail.{cut}
 use Rattle.blocks.specs.declared.Rule.{Rule}
 use Rattle.blocks.specs.declared.Step.{Step}
@@ -74,7 +74,7 @@ module _ (f : ℕ → Rule) (s : List ℕ) where
     all-given p _ k (at-end _ c a) = sym (no-group-at-end p (step-rows (f p) s p (S.Finished c) (block .bytes) .0 a .1))
     all-given p _ k (at-tail _ n c a) = sym (no-group-in-tail p (step-rows (f p) s p (S.Tail n c) (block .bytes) .0 a .1))
     all-given p _ k (at-number _ v n c l a rest) =
-        one-given p (n .0) (c .place .0) (gives (valueOf v)) l (step-rows (f p) s p (S.Number v n c) (block .bytes) .0 a .1) (λ j. all-given (c .place .0) l j rest)
+        one-given p (n .0) (c .place .0) (gives (meansValue v)) l (step-rows (f p) s p (S.Number v n c) (block .bytes) .0 a .1) (λ j. all-given (c .place .0) l j rest)
     all-given p _ k (at-gap _ why n c l a rest) =
         one-given p (n .0) (c .place .0) (refused (numberOf why)) l (step-rows (f p) s p (S.Gap why n c) (block .bytes) .0 a .1) (λ j. all-given (c .place .0) l j rest)
 
@@ -94,7 +94,7 @@ module _ (f : ℕ → Rule) (s : List ℕ) where
     ends-by p k ih (S.Number v n c) row =
         let q = c .place .0 in
         let b = further (row .1) in
-        subst (Gives f s p) (one-given p (n .0) q (gives (valueOf v)) (from-here q) (row .1) (λ j. refl))
+        subst (Gives f s p) (one-given p (n .0) q (gives (meansValue v)) (from-here q) (row .1) (λ j. refl))
         (at-number p v n c (from-here q) (row-steps (f p) s p (S.Number v n c) row) (ih q (b .0) (b .1)))
     ends-by p k ih (S.Gap why n c) row =
         let q = c .place .0 in

@@ -3,14 +3,14 @@ use Prim.Native.Nat.{ℕ}
 use mathlib.Core.Path.{_≡_, refl, ap, sym, _∙_, subst}
 use mathlib.Core.Logic.{_↔_}
 use native.Mathlib.Omega.{arith}
-use Rattle.words.specs.Answer.{Answer, gives, refused, meaning}
+use Rattle.words.specs.Answer.{Answer, gives, refused, meansWritten}
 use Rattle.words.specs.Refusal.{numberOf}
 use Rattle.words.specs.declared.Refusal.{Refusal}
 use Rattle.words.specs.declared.Written.{Written}
 use Rattle.words.specs.declared.Written.the-variants as W
 use Rattle.words.proofs.Numbered.{refusalOf, refusal-back, same-refusal}
 use Rattle.blocks.specs.Block.{Val, unsigned, signed, Stepped, number, gap, tail, finished, refuses}
-use Rattle.blocks.specs.Promise.{valueOf, meaning as meaningStep, meaningSet}
+use Rattle.blocks.specs.Promise.{meansValue, meansStep, meansSetDown}
 use Rattle.blocks.specs.declared.Step.{Step}
 use Rattle.blocks.specs.declared.Step.the-variants as S
 use Rattle.blocks.specs.declared.Value.{Value}
@@ -19,12 +19,12 @@ use Rattle.blocks.specs.declared.SetDown.{SetDown}
 use Rattle.blocks.specs.declared.SetDown.the-variants as D
 use Rattle.listing.specs.Listing as I
 use Rattle.listing.specs.Listing.{Stage, Coming}
-use Rattle.listing.specs.Promise.{stageOf, meaning as meaningNext}
+use Rattle.listing.specs.Promise.{meansListing, meansNext}
 use Rattle.listing.specs.declared.Listing.{Listing}
 use Rattle.listing.specs.declared.Listing.the-variants as G
 use Rattle.listing.specs.declared.Next.{Next}
 use Rattle.listing.specs.declared.Next.the-variants as X
-use Rattle.lists.specs.Promise.{meaning as meaningList}
+use Rattle.lists.specs.Promise.{meansReadList}
 use Rattle.lists.specs.declared.ReadList.{ReadList}
 use Rattle.lists.specs.declared.ReadList.the-variants as L
 
@@ -50,7 +50,7 @@ pub by-rows : {R : Type 0} {Promise Row : R → Type 0} → ((r r′ : R) → Pr
     → (r : R) × Row r → (r : R) → Promise r ↔ Row r
 by-rows {R} {Promise} {Row} one meets found r = (λ p. subst Row (one (found .0) r (meets (found .0) (found .1)) p) (found .1), meets r)
 
--- what has a way back from its meaning is determined by it
+-- what has a way back from its meansWritten is determined by it
 same-by : {A R : Type 0} (means : R → A) (back : A → R) → ((r : R) → back (means r) ≡ r) → (r r′ : R) → means r ≡ means r′ → r ≡ r′
 same-by means back is r r′ e = sym (is r) ∙ ap back e ∙ is r′
 
@@ -59,29 +59,29 @@ abbrev back : {A R : Type 0} → (A → R) → (Refusal → R) → Answer A → 
 back give refuse (gives a) = give a
 back give refuse (refused k) = refuse (refusalOf k)
 
-pub same-written : (r r′ : Written) → meaning r ≡ meaning r′ → r ≡ r′
+pub same-written : (r r′ : Written) → meansWritten r ≡ meansWritten r′ → r ≡ r′
 same-written =
-    same-by meaning (back (λ (n : ℕ). W.Bytes (record { 0 = n })) W.Refused)
+    same-by meansWritten (back (λ (n : ℕ). W.Bytes (record { 0 = n })) W.Refused)
     (λ r. elim r [ W.Bytes n ↦ refl | W.Refused a ↦ ap W.Refused (refusal-back a) ])
 
-pub same-set : (r r′ : SetDown) → meaningSet r ≡ meaningSet r′ → r ≡ r′
+pub same-set : (r r′ : SetDown) → meansSetDown r ≡ meansSetDown r′ → r ≡ r′
 same-set =
-    same-by meaningSet (back (λ (p : ℕ). D.At (record { place = record { 0 = p } })) D.Refused)
+    same-by meansSetDown (back (λ (p : ℕ). D.At (record { place = record { 0 = p } })) D.Refused)
     (λ r. elim r [ D.At c ↦ refl | D.Refused a ↦ ap D.Refused (refusal-back a) ])
 
-pub same-list : (r r′ : ReadList) → meaningList r ≡ meaningList r′ → r ≡ r′
+pub same-list : (r r′ : ReadList) → meansReadList r ≡ meansReadList r′ → r ≡ r′
 same-list =
-    same-by meaningList (back (λ (n : ℕ). L.Filled (record { 0 = n })) L.Refused)
+    same-by meansReadList (back (λ (n : ℕ). L.Filled (record { 0 = n })) L.Refused)
     (λ r. elim r [ L.Filled n ↦ refl | L.Refused a ↦ ap L.Refused (refusal-back a) ])
 
-pub same-step : (r r′ : Step) → meaningStep r ≡ meaningStep r′ → r ≡ r′
-same-step = same-by meaningStep back is
+pub same-step : (r r′ : Step) → meansStep r ≡ meansStep r′ → r ≡ r′
+same-step = same-by meansStep back is
   where
     value : Val → Value
     value (unsigned v) = N.Unsigned v
     value (signed v) = N.Signed v
 
-    value-is : (v : Value) → value (valueOf v) ≡ v
+    value-is : (v : Value) → value (meansValue v) ≡ v
     value-is (N.Unsigned v) = refl
     value-is (N.Signed v) = refl
 
@@ -92,22 +92,22 @@ same-step = same-by meaningStep back is
     back (finished p) = S.Finished (record { place = record { 0 = p } })
     back (refuses k) = S.Refused (refusalOf k)
 
-    is : (r : Step) → back (meaningStep r) ≡ r
+    is : (r : Step) → back (meansStep r) ≡ r
     is (S.Number v n c) = rw (value-is v)
     is (S.Gap a n c) = rw (refusal-back a)
     is (S.Tail n c) = refl
     is (S.Finished c) = refl
     is (S.Refused a) = rw (refusal-back a)
 
-pub same-next : (r r′ : Next) → meaningNext r ≡ meaningNext r′ → r ≡ r′
-same-next = same-by meaningNext back-next is
+pub same-next : (r r′ : Next) → meansNext r ≡ meansNext r′ → r ≡ r′
+same-next = same-by meansNext back-next is
   where
     listing : Stage → Listing
     listing I.top = G.Top
     listing (I.at p) = G.At (record { place = record { 0 = p } })
     listing I.ended = G.Ended
 
-    listing-is : (g : Listing) → listing (stageOf g) ≡ g
+    listing-is : (g : Listing) → listing (meansListing g) ≡ g
     listing-is G.Top = refl
     listing-is (G.At c) = refl
     listing-is G.Ended = refl
@@ -117,7 +117,7 @@ same-next = same-by meaningNext back-next is
     back-next I.over = X.Ended
     back-next (I.refuses k) = X.Refused (refusalOf k)
 
-    is : (r : Next) → back-next (meaningNext r) ≡ r
+    is : (r : Next) → back-next (meansNext r) ≡ r
     is (X.Line n g) = rw (listing-is g)
     is X.Ended = refl
     is (X.Refused a) = rw (refusal-back a)

@@ -17,8 +17,8 @@ use Rattle.groups.specs.Begins.{Begins}
 use Rattle.groups.specs.Group.{Bytes}
 use Rattle.groups.specs.Width.{read}
 use Rattle.groups.proofs.Spelling.{Spelled, last, byte, short}
-use Rattle.uleb128_writing.specs.Unsigned.{form, u64}
-use Rattle.uleb128_writing.proofs.Forms.{form-small, form-large, form-spelled}
+use Rattle.uleb128.specs.Unsigned.{form, u64}
+use Rattle.uleb128.proofs.Forms.{form-small, form-large, form-spelled}
 use Rattle.claims.specs.Readers.{loop64}
 use Rattle.claims.specs.Source.{spec-parse-more, spec-parse, spec-serialize-within, spec-serialize-helper}
 use Rattle.claims.specs.OfNumbers.{SpecParse}

@@ -19,12 +19,12 @@ use Rattle.groups.specs.Width.{tooMany}
 use Rattle.groups.proofs.Run.{at-run, digits-below}
 use Rattle.groups.proofs.Spelling.{some-bytes, short, small-enough, spelled-group}
 use Rattle.groups.proofs.Exact.{group-length, longer, shortest}
-use Rattle.uleb128_writing.specs.Unsigned as unsigned
-use Rattle.uleb128_writing.proofs.Forms.{form-small, form-large}
-use Rattle.sleb128_reading.specs.Signed.{twos, form, i64}
-use Rattle.sleb128_reading.proofs.Forms.{form-spelled}
-use Rattle.sleb128_reading.proofs.Widths.{spells, pow-seven, half-seven}
-use Rattle.sleb128_reading.proofs.Exactly.{value-above, value-below, form-value}
+use Rattle.uleb128.specs.Unsigned as unsigned
+use Rattle.uleb128.proofs.Forms.{form-small, form-large}
+use Rattle.sleb128.specs.Signed.{twos, form, i64}
+use Rattle.sleb128.proofs.Forms.{form-spelled}
+use Rattle.sleb128.proofs.Widths.{spells, pow-seven, half-seven}
+use Rattle.sleb128.proofs.Exactly.{value-above, value-below, form-value}
 use Rattle.claims.specs.OfNumbers.{Shortest, TwosComplement, Within, SignedForm}
 use Rattle.claims.proofs.Laws.{within, within-mag}
 

@@ -22,10 +22,10 @@ use Rattle.groups.specs.Width.{Width, reading}
 use Rattle.groups.proofs.Run.{run-within}
 use Rattle.groups.proofs.Exact.{group-length}
 use Rattle.groups.proofs.Standing.{front-group, run-behind}
-use Rattle.uleb128_writing.specs.Unsigned.{u64}
-use Rattle.sleb128_reading.specs.Signed.{i64}
+use Rattle.uleb128.specs.Unsigned.{u64}
+use Rattle.sleb128.specs.Signed.{i64}
 use Rattle.blocks.specs.Block.{block-limit, isStart, Val, unsigned, signed, Stepped, number, gap, valued, readBy, says, saysBy, stepping}
-use Rattle.blocks.specs.Promise.{valueOf, Steps}
+use Rattle.blocks.specs.Promise.{meansValue, Steps}
 use Rattle.blocks.specs.declared.Cursor.{Cursor}
 use Rattle.blocks.specs.declared.Rule.{Rule}
 use Rattle.blocks.specs.declared.Rule.the-variants.{Unsigned, Signed}
@@ -111,7 +111,7 @@ module _ (rule : Rule) (s : List ℕ) (p : ℕ) where
       let count : n .0 ≡ run l = omega (arith, run-within l, length-drop p s, h .2) in
       step-tail rule s p (h .0) (k .some) (start-true (k .start)) n c count (h .3) (omega (arith, h .2))
   row-steps (S.Number v n c) h =
-      let k : GroupReads rule s p (gives (valueOf v)) (n .0) (c .place .0) = h .1 in
+      let k : GroupReads rule s p (gives (meansValue v)) (n .0) (c .place .0) = h .1 in
       record { is = said k ∙ says-group (k .group) (h .0) (k .stands) }
   row-steps (S.Gap why n c) h =
       let k : GroupReads rule s p (refused (numberOf why)) (n .0) (c .place .0) = h .1 in

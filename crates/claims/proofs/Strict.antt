@@ -12,7 +12,7 @@ use Rattle.words.specs.declared.Refusal.{Refusal}
 use Rattle.words.specs.declared.Refusal.the-variants.{NoRoom, TooLong}
 use Rattle.words.proofs.Cases.{by-order}
 use Rattle.groups.specs.Group.{Bytes, High, Group}
-use Rattle.uleb128_writing.specs.Unsigned.{u64}
+use Rattle.uleb128.specs.Unsigned.{u64}
 use Rattle.blocks.specs.Block.{block-limit}
 use Rattle.lists.specs.Strict.{numbers, strict, filled}
 use Rattle.lists.specs.Promise.{ReadsStrict}

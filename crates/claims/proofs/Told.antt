@@ -12,9 +12,9 @@ use Rattle.words.proofs.Cases.{by-order, by-test}
 use Rattle.groups.specs.Group.{run}
 use Rattle.groups.specs.Width.{Width, reading, read, runsOut, tooLarge, tooMany}
 use Rattle.groups.proofs.Rows.{read-past, read-from}
-use Rattle.uleb128_reading.specs.declared.ReadU64.the-variants as R64
-use Rattle.uleb128_reading.specs.declared.ReadU32.the-variants as R32
-use Rattle.sleb128_reading.specs.declared.ReadI64.the-variants as RI64
+use Rattle.uleb128.specs.declared.ReadU64.the-variants as R64
+use Rattle.uleb128.specs.declared.ReadU32.the-variants as R32
+use Rattle.sleb128.specs.declared.ReadI64.the-variants as RI64
 use Rattle.claims.specs.Readers.{Reader, loop64, recursive64, unsigned32, signed64, Value, Reply, number, refuse, Promised, width}
 
 module _ {A X : Type 0} (w : Width A) where

@@ -6,7 +6,7 @@ use native.Mathlib.Omega.{arith}
 use borrow.Author.Tests.{le-leb, lt-leb, le-ltb, lt-ltb}
 use lib.ListN.{length, take, drop, length-append, length-drop, take-append-drop}
 use lib.Seq.{length-take-le, drop-at, drop-append-le, drop-drop, drop-append-seam}
-use Rattle.words.specs.Answer.{gives, meaning}
+use Rattle.words.specs.Answer.{gives, meansWritten}
 use Rattle.words.specs.Refusal.{numberOf}
 use Rattle.words.specs.declared.Count.{Count}
 use Rattle.words.specs.declared.Refusal.the-variants.{NoRoom, TooLong}
@@ -16,8 +16,8 @@ use Rattle.words.proofs.Cases.{by-order}
 use Rattle.groups.specs.Begins.{Begins}
 use Rattle.groups.specs.Group.{Bytes}
 use Rattle.groups.specs.Laying.{writing, laid, Lays}
-use Rattle.lists_writing.specs.Lists.{list-limit, forms}
-use Rattle.lists_writing.specs.Promise.{WritesList}
+use Rattle.lists.specs.Lists.{list-limit, forms}
+use Rattle.lists.specs.Promise.{WritesList}
 use Rattle.claims.specs.Readers.{Reader, loop64, recursive64, unsigned32, signed64, Value, number, Promised, form, OfWidth}
 use Rattle.claims.specs.Writers.{Laying}
 use Rattle.claims.specs.OfNumbers.{LaysExactly, Writes, WriteRead, ReadWrite, MoreBehind, SomeByte}
@@ -42,8 +42,8 @@ module _ (bytes s : List ℕ) (at : ℕ) (r : Written) (out : List ℕ) (w : Lay
   bytes-fit : (n : Count) → r ≡ W.Bytes n → (at + length bytes ≤ length s) × (n .0 ≡ length bytes)
   bytes-fit n e =
       by-order (length s) (at + length bytes)
-      (λ h. apart (ap meaning (sym e ∙ no-room h .0)))
-      (λ h. let q : gives (n .0) ≡ gives (length bytes) = ap meaning (sym e ∙ fits h .0) in (h, cc))
+      (λ h. apart (ap meansWritten (sym e ∙ no-room h .0)))
+      (λ h. let q : gives (n .0) ≡ gives (length bytes) = ap meansWritten (sym e ∙ fits h .0) in (h, cc))
 
   kept : length out ≡ length s
   kept =
@@ -55,7 +55,7 @@ module _ (bytes s : List ℕ) (at : ℕ) (r : Written) (out : List ℕ) (w : Lay
   exactly : LaysExactly bytes s at r out
   exactly = (
     (fits, λ p. bytes-fit _ (p .0) .0),
-    (no-room, λ p. by-order (length s) (at + length bytes) (λ h. h) (λ h. apart (ap meaning (sym (fits h .0) ∙ p .0)))),
+    (no-room, λ p. by-order (length s) (at + length bytes) (λ h. h) (λ h. apart (ap meansWritten (sym (fits h .0) ∙ p .0)))),
     kept,
   )
 
@@ -89,8 +89,8 @@ writes-list ns before at r after w = (
     never : r ≡ W.Refused TooLong → Lays (forms ns) before at r after → ⊥
     never e l =
         by-order (length before) (at + length (forms ns))
-        (λ h. let z = refused-same NoRoom TooLong (ap meaning (sym (no-room (forms ns) before at r after l h .0) ∙ e)) in let q : _≡_ {A = ℕ} 5 7 = ap numberOf z in absurd (omega arith))
-        (λ h. apart (ap meaning (sym (fits (forms ns) before at r after l h .0) ∙ e)))
+        (λ h. let z = refused-same NoRoom TooLong (ap meansWritten (sym (no-room (forms ns) before at r after l h .0) ∙ e)) in let q : _≡_ {A = ℕ} 5 7 = ap numberOf z in absurd (omega arith))
+        (λ h. apart (ap meansWritten (sym (fits (forms ns) before at r after l h .0) ∙ e)))
 
 -- 7
 pub write-read : (k : Reader) → WriteRead k

@@ -21,7 +21,7 @@ use Rattle.words.specs.declared.Refusal.{Refusal}
 use Rattle.words.specs.declared.Refusal.the-variants.{Place, NotAStart, TooLong, NoStart}
 use Rattle.groups.specs.Group.{High, Group}
 use Rattle.blocks.specs.Block.{block-limit, Val, readBy}
-use Rattle.blocks.specs.Promise.{valueOf}
+use Rattle.blocks.specs.Promise.{meansValue}
 use Rattle.blocks.specs.declared.Rule.{Rule}
 use Rattle.blocks.specs.declared.Step.{Step}
 use Rattle.blocks.specs.declared.Step.the-variants as S
@@ -58,7 +58,7 @@ pub data StepRefused (s : List ℕ) (p : ℕ) : Refusal → Type 0 where
   not-a-start : length s ≤ block-limit → p < length s → (Start s p → ⊥) → StepRefused s p NotAStart
 
 abbrev pub StepRow : Rule → List ℕ → ℕ → Step → Type 0
-StepRow rule s p (S.Number v n c) = (length s ≤ block-limit) × GroupReads rule s p (gives (valueOf v)) (n .0) (c .place .0)
+StepRow rule s p (S.Number v n c) = (length s ≤ block-limit) × GroupReads rule s p (gives (meansValue v)) (n .0) (c .place .0)
 StepRow rule s p (S.Gap why n c) = (length s ≤ block-limit) × GroupReads rule s p (refused (numberOf why)) (n .0) (c .place .0)
 StepRow rule s p (S.Tail n c) = (length s ≤ block-limit) × TailAt s p × (p + n .0 ≡ length s) × (c .place .0 ≡ p)
 StepRow rule s p (S.Finished c) = (length s ≤ block-limit) × (p ≡ length s) × (c .place .0 ≡ p)

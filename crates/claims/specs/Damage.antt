@@ -10,7 +10,7 @@ use lib.ListN.{length}
 use Rattle.words.specs.Answer.{Answer}
 use Rattle.groups.specs.Group.{run}
 use Rattle.blocks.specs.Block.{Val, saysBy}
-use Rattle.blocks.specs.Promise.{meaning, Steps}
+use Rattle.blocks.specs.Promise.{meansStep, Steps}
 use Rattle.blocks.specs.declared.Rule.{Rule}
 use Rattle.blocks.specs.declared.Step.{Step}
 use Rattle.claims.specs.Blocks.{GroupAt}
@@ -30,7 +30,7 @@ abbrev pub Back : Type 0
 Back = (a x y b : List ℕ) (p p′ : ℕ) (g : List ℕ) → length (a ++ x) + run b < p → p′ + length x ≡ p + length y →
     (GroupAt (a ++ x ++ b) p g ↔ GroupAt (a ++ y ++ b) p′ g)
     × ((rule : Rule) (r r′ : Step) → Block (a ++ x ++ b) → Block (a ++ y ++ b) → GroupAt (a ++ x ++ b) p g
-    → Steps rule (a ++ x ++ b) p r → Steps rule (a ++ y ++ b) p′ r′ → (meaning r ≡ saysBy rule g p) × (meaning r′ ≡ saysBy rule g p′))
+    → Steps rule (a ++ x ++ b) p r → Steps rule (a ++ y ++ b) p′ r′ → (meansStep r ≡ saysBy rule g p) × (meansStep r′ ≡ saysBy rule g p′))
 
 -- All that a reader gives of the old block and of the new one: what ends before the stretch is the same list, if the rules chosen there are
 -- the same.

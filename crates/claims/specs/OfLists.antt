@@ -15,8 +15,8 @@ use Rattle.words.specs.declared.Written.{Written}
 use Rattle.words.specs.declared.Written.the-variants as W
 use Rattle.groups.specs.Group.{Bytes}
 use Rattle.blocks.specs.Block.{block-limit}
-use Rattle.lists_writing.specs.Lists.{list-limit, forms}
-use Rattle.lists_writing.specs.Promise.{WritesList}
+use Rattle.lists.specs.Lists.{list-limit, forms}
+use Rattle.lists.specs.Promise.{WritesList}
 use Rattle.lists.specs.Promise.{ReadsStrict}
 use Rattle.lists.specs.declared.ReadList.{ReadList}
 use Rattle.lists.specs.declared.ReadList.the-variants as L

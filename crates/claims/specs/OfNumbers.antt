@@ -27,16 +27,16 @@ use Rattle.words.specs.declared.Written.the-variants as W
 use Rattle.groups.specs.Begins.{Begins}
 use Rattle.groups.specs.Group.{Bytes, Group, digits}
 use Rattle.groups.specs.Promise.{Walks}
-use Rattle.groups_writing.specs.Promise.{Stores}
+use Rattle.groups.specs.Promise.{Stores}
 use Rattle.groups.specs.Width.{read, tooMany}
 use Rattle.groups.specs.declared.Walked.{Walked}
-use Rattle.uleb128_writing.specs.Unsigned as unsigned
-use Rattle.uleb128_reading.specs.Promise.{ReadsU64}
-use Rattle.uleb128_writing.specs.Promise.{WritesU64}
-use Rattle.uleb128_recursive.specs.Promise.{ReadsU64Rec}
-use Rattle.uleb128_recursive_writing.specs.Promise.{WritesU64Rec}
-use Rattle.uleb128_reading.specs.declared.ReadU64.{ReadU64}
-use Rattle.sleb128_reading.specs.Signed as signed
+use Rattle.uleb128.specs.Unsigned as unsigned
+use Rattle.uleb128.specs.Promise.{ReadsU64}
+use Rattle.uleb128.specs.Promise.{WritesU64}
+use Rattle.uleb128_rec.specs.Promise.{ReadsU64Rec}
+use Rattle.uleb128_rec.specs.Promise.{WritesU64Rec}
+use Rattle.uleb128.specs.declared.ReadU64.{ReadU64}
+use Rattle.sleb128.specs.Signed as signed
 use Rattle.claims.specs.Readers.{Reader, loop64, recursive64, unsigned32, signed64, Value, Reply, number, refuse, Promised, width, form, OfWidth}
 use Rattle.claims.specs.Writers.{Laying, Length, Both}
 use Rattle.claims.specs.Table.{Row}

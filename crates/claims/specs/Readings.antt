@@ -19,7 +19,7 @@ use Rattle.words.specs.declared.Refusal.{Refusal}
 use Rattle.words.specs.declared.Refusal.the-variants.{NoStart}
 use Rattle.groups.specs.Group.{Bytes}
 use Rattle.blocks.specs.Block.{block-limit, Val, readBy}
-use Rattle.blocks.specs.Promise.{valueOf, Steps, SetsDown}
+use Rattle.blocks.specs.Promise.{meansValue, Steps, SetsDown}
 use Rattle.blocks.specs.declared.Cursor.{Cursor}
 use Rattle.blocks.specs.declared.Rule.{Rule}
 use Rattle.blocks.specs.declared.Step.the-variants as S
@@ -40,7 +40,7 @@ pub data Gives (f : ℕ → Rule) (s : List ℕ) : ℕ → List (ℕ × ℕ × A
   at-end : (p : ℕ) (c : Cursor) → Steps (f p) s p (S.Finished c) → Gives f s p []
   at-tail : (p : ℕ) (n : Count) (c : Cursor) → Steps (f p) s p (S.Tail n c) → Gives f s p []
   at-number : (p : ℕ) (v : Value) (n : Count) (c : Cursor) (l : List (ℕ × ℕ × Answer Val))
-      → Steps (f p) s p (S.Number v n c) → Gives f s (c .place .0) l → Gives f s p ((p, n .0, gives (valueOf v)) ∷ l)
+      → Steps (f p) s p (S.Number v n c) → Gives f s (c .place .0) l → Gives f s p ((p, n .0, gives (meansValue v)) ∷ l)
   at-gap : (p : ℕ) (why : Refusal) (n : Count) (c : Cursor) (l : List (ℕ × ℕ × Answer Val))
       → Steps (f p) s p (S.Gap why n c) → Gives f s (c .place .0) l → Gives f s p ((p, n .0, refused (numberOf why)) ∷ l)
 

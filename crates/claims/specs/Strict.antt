@@ -13,9 +13,9 @@ use lib.ListN.{length, drop}
 use Rattle.words.specs.declared.Refusal.{Refusal}
 use Rattle.words.specs.declared.Refusal.the-variants.{End, NoRoom, TooLong}
 use Rattle.groups.specs.Group.{High, Group}
-use Rattle.uleb128_writing.specs.Unsigned.{u64}
+use Rattle.uleb128.specs.Unsigned.{u64}
 use Rattle.blocks.specs.Block.{block-limit}
-use Rattle.lists_writing.specs.Lists.{forms}
+use Rattle.lists.specs.Lists.{forms}
 use Rattle.lists.specs.declared.ReadList.{ReadList}
 use Rattle.lists.specs.declared.ReadList.the-variants as L
 use Rattle.claims.specs.Table.{GapRow}

@@ -10,8 +10,8 @@ use lib.IntN.{ℤ, pos, negℤ}
 use lib.ListN.{replicate}
 use Rattle.words.specs.Answer.{Answer, gives, refused}
 use Rattle.groups.specs.Width.{Width, read}
-use Rattle.uleb128_writing.specs.Unsigned.{u64, u32}
-use Rattle.sleb128_reading.specs.Signed.{i64}
+use Rattle.uleb128.specs.Unsigned.{u64, u32}
+use Rattle.sleb128.specs.Signed.{i64}
 
 abbrev pub Rows : {A : Type 0} → Width A → List (List ℕ × Answer (A × ℕ)) → Type 0
 Rows w [] = Unit

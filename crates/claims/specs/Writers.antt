@@ -7,9 +7,9 @@ use Prim.Native.Nat.{ℕ}
 use mathlib.Core.List.{List}
 use Rattle.words.specs.declared.Count.{Count}
 use Rattle.words.specs.declared.Written.{Written}
-use Rattle.uleb128_writing.specs.Promise.{WritesU64, WritesU32, LengthU64, LengthU32}
-use Rattle.uleb128_recursive_writing.specs.Promise.{WritesU64Rec}
-use Rattle.sleb128_writing.specs.Promise.{WritesI64, LengthI64}
+use Rattle.uleb128.specs.Promise.{WritesU64, WritesU32, LengthU64, LengthU32}
+use Rattle.uleb128_rec.specs.Promise.{WritesU64Rec}
+use Rattle.sleb128.specs.Promise.{WritesI64, LengthI64}
 use Rattle.claims.specs.Readers.{Reader, loop64, recursive64, unsigned32, signed64, Value}
 
 abbrev pub Laying : (k : Reader) → Value k → List ℕ → ℕ → Written → List ℕ → Type 0

@@ -6,3 +6,4 @@ pub mod Layings
 pub mod Spelling
 pub mod Exact
 pub mod Standing
+pub mod Storing

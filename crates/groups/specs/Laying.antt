@@ -9,7 +9,7 @@ use mathlib.Core.List.{List, _++_}
 use mathlib.Core.Path.{_≡_}
 use lib.Dec.{leb}
 use lib.ListN.{length, take, drop}
-use Rattle.words.specs.Answer.{pick, Answer, gives, refused, meaning}
+use Rattle.words.specs.Answer.{pick, Answer, gives, refused, meansWritten}
 use Rattle.words.specs.declared.Count.{Count}
 use Rattle.words.specs.declared.Written.{Written}
 
@@ -20,7 +20,7 @@ unfoldable pub laid : List ℕ → ℕ → List ℕ → List ℕ
 laid s at bytes = pick (leb (at + length bytes) (length s)) (take at s ++ bytes ++ drop (at + length bytes) s) s
 
 pub record Lays (bytes s : List ℕ) (at : ℕ) (r : Written) (out : List ℕ) : Type 0 where
-  pub answer : meaning r ≡ writing s at (length bytes)
+  pub answer : meansWritten r ≡ writing s at (length bytes)
   pub leaves : out ≡ laid s at bytes
 
 pub record Takes (bytes : List ℕ) (r : Count) : Type 0 where

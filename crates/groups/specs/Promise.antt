@@ -3,6 +3,7 @@
 --   walked s at       how the bytes of s from the place at on go: past the end; all high and fewer than ten; ten high ones; or
 --                     high ones closed by one below 128, with what the high ones sum to and what the closing one weighs
 --   Walks s at r      walking them answers r
+--   Stores m below n s at r out   n bytes that spell m are laid down at this place of s, or none
 use Prim.Native.Nat.{ℕ, _^_}
 use mathlib.Core.List.{List}
 use mathlib.Core.Path.{_≡_}
@@ -12,6 +13,10 @@ use Rattle.words.specs.Answer.{pick}
 use Rattle.groups.specs.Group.{run, digits}
 use Rattle.groups.specs.declared.Walked.{Walked}
 use Rattle.groups.specs.declared.Walked.the-variants.{Past, Open, Long, Closed}
+use mathlib.Core.Bool.{Bool}
+use Rattle.words.specs.declared.Written.{Written}
+use Rattle.groups.specs.Form.{groups}
+use Rattle.groups.specs.Laying.{Lays}
 
 unfoldable pub walking : List ℕ → Walked
 walking l =
@@ -24,3 +29,6 @@ walked s at = pick (ltb (length s) at) Past (walking (drop at s))
 
 pub record Walks (s : List ℕ) (at : ℕ) (r : Walked) : Type 0 where
   pub is : r ≡ walked s at
+
+abbrev pub Stores : ℕ → Bool → ℕ → List ℕ → ℕ → Written → List ℕ → Type 0
+Stores m below n s at r out = Lays (groups below n m) s at r out

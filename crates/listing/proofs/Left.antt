@@ -20,7 +20,7 @@ use Rattle.groups.specs.Group.{run}
 use Rattle.groups.specs.Width.{reading}
 use Rattle.groups.proofs.Run.{run-within, at-run}
 use Rattle.texts.specs.Texts.{ascii}
-use Rattle.uleb128_writing.specs.Unsigned.{u64}
+use Rattle.uleb128.specs.Unsigned.{u64}
 use Rattle.blocks.specs.Block.{block-limit, isStart, unsigned, valued, says}
 use Rattle.blocks.specs.GroupsAndTail.{cut}
 use Rattle.blocks.specs.declared.Cursor.{Cursor}

@@ -27,7 +27,7 @@ use Rattle.texts.specs.Texts.{ascii, Lays}
 use Rattle.texts.proofs.Decimals.{at-most-20}
 use Rattle.texts.proofs.Laying.{front, front-count}
 use Rattle.listing.specs.Listing.{line, over, refuses, line-room, row, fault, next}
-use Rattle.listing.specs.Promise.{stageOf, GivesLine}
+use Rattle.listing.specs.Promise.{meansListing, GivesLine}
 use Rattle.listing.specs.declared.Listing.{Listing}
 use Rattle.listing.specs.declared.Next.the-variants as X
 
@@ -36,21 +36,21 @@ module _ {g : Listing} {s before : List ℕ} where
   no-room h = record { answer = rw (lt-ltb (length before) line-room h); leaves = rw (lt-ltb (length before) line-room h) }
 
   module _ (room : line-room ≤ length before) where
-    pub fronts : {g′ : Listing} {t : List ℕ} → next s (stageOf g) ≡ line t (stageOf g′)
+    pub fronts : {g′ : Listing} {t : List ℕ} → next s (meansListing g) ≡ line t (meansListing g′)
         → GivesLine g s before (X.Line (record { 0 = length t }) g′) (t ++ drop (length t) before)
     fronts e = record { answer = rw (le-ltb (length before) line-room room, e); leaves = rw (le-ltb (length before) line-room room, e) }
 
     pub comes : {g′ : Listing} {n : Count} {t after : List ℕ}
-        → next s (stageOf g) ≡ line t (stageOf g′) → length t ≤ line-room → Lays t before 0 (n .0) after → GivesLine g s before (X.Line n g′) after
+        → next s (meansListing g) ≡ line t (meansListing g′) → length t ≤ line-room → Lays t before 0 (n .0) after → GivesLine g s before (X.Line n g′) after
     comes {g′} e fits p = record {
-      answer = rw (le-ltb (length before) line-room room, e) (ap (λ (m : ℕ). line m (stageOf g′)) (front-count (omega arith) p));
+      answer = rw (le-ltb (length before) line-room room, e) (ap (λ (m : ℕ). line m (meansListing g′)) (front-count (omega arith) p));
       leaves = rw (le-ltb (length before) line-room room, e) (front (omega arith) p);
     }
 
-    pub none : next s (stageOf g) ≡ over → GivesLine g s before X.Ended before
+    pub none : next s (meansListing g) ≡ over → GivesLine g s before X.Ended before
     none e = record { answer = rw (le-ltb (length before) line-room room, e); leaves = rw (le-ltb (length before) line-room room, e) }
 
-    pub refused : {why : Refusal} → next s (stageOf g) ≡ refuses (numberOf why) → GivesLine g s before (X.Refused why) before
+    pub refused : {why : Refusal} → next s (meansListing g) ≡ refuses (numberOf why) → GivesLine g s before (X.Refused why) before
     refused e = record { answer = rw (le-ltb (length before) line-room room, e); leaves = rw (le-ltb (length before) line-room room, e) }
 
 pub row-fits : (p v : ℕ) (what : List ℕ) → p < 2 ^ 64 → v < 2 ^ 64 → length what ≤ 12 → length (row p what v) ≤ line-room

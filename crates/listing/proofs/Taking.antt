@@ -13,7 +13,7 @@ use lib.Seq.{take-append-seam}
 use Rattle.words.specs.declared.Count.{Count}
 use Rattle.words.proofs.Cases.{by-order}
 use Rattle.listing.specs.Listing.{Stage, Coming, line, over, refuses, line-room, next}
-use Rattle.listing.specs.Promise.{stageOf, meaning, asked, counted, fronted, GivesLine}
+use Rattle.listing.specs.Promise.{meansListing, meansNext, asked, counted, fronted, GivesLine}
 use Rattle.listing.specs.declared.Listing.{Listing}
 use Rattle.listing.specs.declared.Next.{Next}
 use Rattle.listing.specs.declared.Next.the-variants as X
@@ -44,17 +44,17 @@ module _ {s : List ℕ} {g : Stage} where
   over-left _ (none e) a = e
   over-left _ (more l g″ fine e falls) a = let z : _≡_ {A = ℕ} 0 1 = cc in absurd (omega arith)
 
-module _ {s : List ℕ} {g : Listing} (fine : Fine s (stageOf g)) {before after : List ℕ} where
-  pub took : {r : Next} {n : Count} {g′ : Listing} → GivesLine g s before r after → r ≡ X.Line n g′ → Took s (stageOf g) (n .0) (stageOf g′) after
+module _ {s : List ℕ} {g : Listing} (fine : Fine s (meansListing g)) {before after : List ℕ} where
+  pub took : {r : Next} {n : Count} {g′ : Listing} → GivesLine g s before r after → r ≡ X.Line n g′ → Took s (meansListing g) (n .0) (meansListing g′) after
   took {r} {n} {g′} e is =
-      let answer : line (n .0) (stageOf g′) ≡ counted (asked s (stageOf g) (length before)) = ap meaning (sym is) ∙ e .answer in
+      let answer : line (n .0) (meansListing g′) ≡ counted (asked s (meansListing g) (length before)) = ap meansNext (sym is) ∙ e .answer in
       by-order (length before) line-room
       (λ h.
-      let f : line (n .0) (stageOf g′) ≡ refuses 5 = rw (lt-ltb (length before) line-room h) at answer in
+      let f : line (n .0) (meansListing g′) ≡ refuses 5 = rw (lt-ltb (length before) line-room h) at answer in
       let z : _≡_ {A = ℕ} 0 1 = cc in absurd (omega arith))
       (λ h.
-      line-took (next s (stageOf g)) before (coming s (stageOf g) fine) (rw (le-ltb (length before) line-room h) at answer)
+      line-took (next s (meansListing g)) before (coming s (meansListing g) fine) (rw (le-ltb (length before) line-room h) at answer)
       (rw (le-ltb (length before) line-room h) at (e .leaves)))
 
-  pub nothing-left : line-room ≤ length before → GivesLine g s before X.Ended after → left s (stageOf g) ≡ []
-  nothing-left h e = over-left (next s (stageOf g)) (coming s (stageOf g) fine) (rw (le-ltb (length before) line-room h) at (e .answer))
+  pub nothing-left : line-room ≤ length before → GivesLine g s before X.Ended after → left s (meansListing g) ≡ []
+  nothing-left h e = over-left (next s (meansListing g)) (coming s (meansListing g) fine) (rw (le-ltb (length before) line-room h) at (e .answer))

@@ -15,7 +15,7 @@ use lib.ListN.{length}
 use Rattle.words.specs.Answer.{pick, Answer, gives, refused}
 use Rattle.groups.specs.Width.{reading}
 use Rattle.texts.specs.Texts.{ascii, decimal}
-use Rattle.uleb128_writing.specs.Unsigned.{u64}
+use Rattle.uleb128.specs.Unsigned.{u64}
 use Rattle.blocks.specs.Block.{block-limit, unsigned, signed, Stepped, number, gap, tail, finished, stepping}
 use Rattle.blocks.specs.Block as B
 use Rattle.blocks.specs.GroupsAndTail.{cut}

@@ -1,6 +1,6 @@
 -- What the functions of this crate promise.
 --
---   stageOf, meaning   what a listing and an answer say; a line is told by the count of its bytes
+--   meansListing, meansNext   what a listing and an answer say; a line is told by the count of its bytes
 --   asked              what comes next where the buffer has so many bytes: 5 if they are too few for a line
 --   counted, fronted   its count of bytes, and the buffer afterwards: the line's bytes are its first, all else is kept
 --   GivesLine          what follows on a listing of the block s
@@ -17,15 +17,15 @@ use Rattle.listing.specs.declared.Listing.the-variants as L
 use Rattle.listing.specs.declared.Next.{Next}
 use Rattle.listing.specs.declared.Next.the-variants as X
 
-abbrev pub stageOf : Listing → Stage
-stageOf L.Top = top
-stageOf (L.At c) = at (c .place .0)
-stageOf L.Ended = ended
+abbrev pub meansListing : Listing → Stage
+meansListing L.Top = top
+meansListing (L.At c) = at (c .place .0)
+meansListing L.Ended = ended
 
-abbrev pub meaning : Next → Coming ℕ
-meaning (X.Line n g) = line (n .0) (stageOf g)
-meaning X.Ended = over
-meaning (X.Refused why) = refuses (numberOf why)
+abbrev pub meansNext : Next → Coming ℕ
+meansNext (X.Line n g) = line (n .0) (meansListing g)
+meansNext X.Ended = over
+meansNext (X.Refused why) = refuses (numberOf why)
 
 abbrev pub asked : List ℕ → Stage → ℕ → Coming (List ℕ)
 asked s g room = pick (ltb room line-room) (refuses 5) (next s g)
@@ -41,5 +41,5 @@ fronted over s = s
 fronted (refuses k) s = s
 
 pub record GivesLine (g : Listing) (s before : List ℕ) (r : Next) (after : List ℕ) : Type 0 where
-  pub answer : meaning r ≡ counted (asked s (stageOf g) (length before))
-  pub leaves : after ≡ fronted (asked s (stageOf g) (length before)) before
+  pub answer : meansNext r ≡ counted (asked s (meansListing g) (length before))
+  pub leaves : after ≡ fronted (asked s (meansListing g) (length before)) before

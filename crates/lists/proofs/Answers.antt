@@ -12,13 +12,13 @@ use Rattle.words.specs.declared.Refusal.the-variants as Why
 use Rattle.blocks.specs.Block.{block-limit}
 use Rattle.lists.specs.Strict.{numbers, counted, filling, strict, filled}
 use Rattle.lists.specs.Inner.{many, Room, Fits}
-use Rattle.lists.specs.Promise.{meaning, ReadsStrict}
+use Rattle.lists.specs.Promise.{meansReadList, ReadsStrict}
 use Rattle.lists.specs.declared.ReadList.{ReadList}
 use Rattle.lists.specs.declared.ReadList.the-variants.{Refused}
 
 -- strict reading, from what the numbers of the block come to
 module _ (s old : List ℕ) (short : length s ≤ block-limit) where
-  pub answered : {r : ReadList} {out : List ℕ} → meaning r ≡ counted (numbers s) (length old) → out ≡ filling (numbers s) old
+  pub answered : {r : ReadList} {out : List ℕ} → meansReadList r ≡ counted (numbers s) (length old) → out ≡ filling (numbers s) old
       → ReadsStrict s old r out
   unfolding strict filled
   answered e f = let t = le-ltb block-limit (length s) short in record { answer = rw t e; leaves = rw t f }

@@ -7,7 +7,7 @@ use lib.ListN.{length, take, drop}
 use Rattle.words.specs.Answer.{gives, refused}
 use Rattle.groups.specs.Group.{run}
 use Rattle.groups.specs.Width.{reading}
-use Rattle.uleb128_writing.specs.Unsigned.{u64}
+use Rattle.uleb128.specs.Unsigned.{u64}
 use Rattle.blocks.specs.GroupsAndTail.{cut}
 use Rattle.blocks.proofs.Cuts.{cut-group, cut-tail}
 use Rattle.lists.specs.Strict.{joined, numbersOf, numbers}

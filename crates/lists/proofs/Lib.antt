@@ -1,3 +1,5 @@
+pub mod Totals
+pub mod Layings
 pub mod Fronts
 pub mod Passing
 pub mod Scanning

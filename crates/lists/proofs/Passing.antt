@@ -12,7 +12,7 @@ use Rattle.words.proofs.Cases.{by-order}
 use Rattle.groups.specs.Group.{run}
 use Rattle.groups.specs.Width.{reading}
 use Rattle.groups.proofs.Run.{run-within, at-run}
-use Rattle.uleb128_writing.specs.Unsigned.{u64}
+use Rattle.uleb128.specs.Unsigned.{u64}
 use Rattle.blocks.specs.Block.{block-limit, isStart, unsigned, signed, Stepped, number, gap, tail, finished, refuses, valued, says, stepping}
 use Rattle.blocks.specs.declared.Rule.the-variants.{Unsigned}
 use Rattle.blocks.proofs.Runs.{start-behind}

@@ -7,7 +7,7 @@
 --   StartsBefore s p    p is a start of the block s, before its end
 --   Behind s p v q      the number v stands at the start p, and q is the start behind it
 --   Passes s p r        r says what stands at the start p: a fault, or a number and the place behind it
---   meaningScan         what the first pass's answer says
+--   meansScanned         what the first pass's answer says
 --   Scans s r           r says how many numbers the block s has, or its first fault
 use Prim.Native.Nat.{ℕ, _+_, _≤_, _<_}
 use mathlib.Core.List.{List, _∷_}
@@ -18,10 +18,10 @@ use Rattle.words.specs.Answer.{Answer, gives, refused}
 use Rattle.words.specs.Refusal.{numberOf}
 use Rattle.blocks.specs.Block.{block-limit, isStart}
 use Rattle.lists.specs.Strict.{numbers}
-use Rattle.lists.specs.declared.Passed.{Passed}
-use Rattle.lists.specs.declared.Passed.the-variants as P
-use Rattle.lists.specs.declared.Scanned.{Scanned}
-use Rattle.lists.specs.declared.Scanned.the-variants as C
+use Rattle.lists.specs.declared.reading.Passed.{Passed}
+use Rattle.lists.specs.declared.reading.Passed.the-variants as P
+use Rattle.lists.specs.declared.reading.Scanned.{Scanned}
+use Rattle.lists.specs.declared.reading.Scanned.the-variants as C
 
 abbrev pub ahead : ℕ → Answer (List ℕ) → Answer (List ℕ)
 ahead v (gives ns) = gives (v ∷ ns)
@@ -54,9 +54,9 @@ abbrev pub Passes : List ℕ → ℕ → Passed → Type 0
 Passes s p (P.Number v q) = Behind s p v q
 Passes s p (P.Fault why) = numbers (drop p s) ≡ refused (numberOf why)
 
-abbrev pub meaningScan : Scanned → Answer ℕ
-meaningScan (C.Count n) = gives n
-meaningScan (C.Fault why) = refused (numberOf why)
+abbrev pub meansScanned : Scanned → Answer ℕ
+meansScanned (C.Count n) = gives n
+meansScanned (C.Fault why) = refused (numberOf why)
 
 pub record Scans (s : List ℕ) (r : Scanned) : Type 0 where
-  pub is : meaningScan r ≡ many (numbers s)
+  pub is : meansScanned r ≡ many (numbers s)

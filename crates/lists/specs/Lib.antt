@@ -1,3 +1,4 @@
-pub mod Strict
+pub mod Lists
 pub mod Promise
+pub mod Strict
 pub mod Inner

@@ -11,7 +11,7 @@ use lib.Dec.{leb, ltb}
 use lib.ListN.{length, drop}
 use Rattle.words.specs.Answer.{pick, Answer, gives, refused}
 use Rattle.groups.specs.Width.{reading}
-use Rattle.uleb128_writing.specs.Unsigned.{u64}
+use Rattle.uleb128.specs.Unsigned.{u64}
 use Rattle.blocks.specs.Block.{block-limit}
 use Rattle.blocks.specs.GroupsAndTail.{cut}
 

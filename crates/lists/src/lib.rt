@@ -1,18 +1,10 @@
-// Lists of unsigned numbers: strict reading of a whole block here, and writing a list's forms one after another, which stands in a
-// crate of its own so that each must-fail edit proves few functions anew.
-use blocks::BLOCK_LIMIT;
-use blocks::Cursor;
-use blocks::Rule;
-use blocks::Step;
-use blocks::Value;
-use words::Place;
+// Lists of unsigned numbers: strict reading of a whole block, and writing a list's forms one after another.
+mod reading;
+mod writing;
+
+pub use reading::read_strict;
 use words::Refusal;
-ghost use Prim.Native.Nat.{_≤_};
-ghost use lib.ListN.{length};
-ghost use Rattle.blocks.specs.Block.{block-limit};
-ghost use Rattle.lists.specs.Inner.{StartsBefore, Passes, Scans, Fits};
-ghost use Rattle.lists.specs.Promise.{ReadsStrict};
-pub use lists_writing::write_list;
+pub use writing::write_list;
 
 // A count of numbers: neither a place nor a count of bytes.
 pub struct Numbers(pub usize);
@@ -21,101 +13,4 @@ pub struct Numbers(pub usize);
 pub enum ReadList {
     Filled(Numbers),
     Refused(Refusal),
-}
-
-// A group's number with the place behind it, or the fault there.
-enum Passed {
-    Number(u64, usize),
-    Fault(Refusal),
-}
-
-// How many numbers a block has, or its first fault.
-enum Scanned {
-    Count(usize),
-    Fault(Refusal),
-}
-
-// What stands at a start before the block's end. From there no step by the unsigned rule says a signed number, that it is
-// finished, or that it refuses; those arms are never taken.
-fn pass(block: &[u8], at: usize) -> Passed
-    requires { ⌜ StartsBefore (now block) at ⌝ }
-    ensures { λ r. ⌜ Passes (now (block .entry)) at r ⌝ }
-{
-    let cursor = Cursor { place: Place(at) };
-    match cursor.step(block, Rule::Unsigned) {
-        Step::Number(value, _, next) => {
-            let place = next.place;
-            let behind = place.0;
-            match value {
-                Value::Unsigned(v) => Passed::Number(v, behind),
-                Value::Signed(_) => Passed::Fault(Refusal::Overflow),
-            }
-        }
-        Step::Gap(refusal, _, _) => Passed::Fault(refusal),
-        Step::Tail(_, _) => Passed::Fault(Refusal::End),
-        Step::Finished(_) => Passed::Fault(Refusal::End),
-        Step::Refused(refusal) => Passed::Fault(refusal),
-    }
-}
-
-// The first pass: counts the numbers, and stores none.
-fn scan(block: &[u8]) -> Scanned
-    requires { ⌜ length (now block) ≤ block-limit ⌝ }
-    ensures { λ r. ⌜ Scans (now (block .entry)) r ⌝ }
-{
-    let mut at: usize = 0;
-    let mut count: usize = 0;
-    while at < block.len() {
-        match pass(block, at) {
-            Passed::Number(_, behind) => {
-                at = behind;
-                count += 1;
-            }
-            Passed::Fault(refusal) => {
-                return Scanned::Fault(refusal);
-            }
-        }
-    }
-    Scanned::Count(count)
-}
-
-// The second pass: stores the numbers of a block without a fault, for which there is room. So it meets no fault.
-fn fill(block: &[u8], numbers: &mut [u64]) -> ReadList
-    requires { ⌜ Fits (now block) (length (now numbers)) ⌝ }
-    ensures { λ r. ⌜ ReadsStrict (now (block .entry)) (now (numbers .entry)) r (now (numbers .exit)) ⌝ }
-{
-    let mut at: usize = 0;
-    let mut count: usize = 0;
-    while at < block.len() {
-        match pass(block, at) {
-            Passed::Number(v, behind) => {
-                numbers[count] = v;
-                at = behind;
-                count += 1;
-            }
-            Passed::Fault(refusal) => {
-                return ReadList::Refused(refusal);
-            }
-        }
-    }
-    ReadList::Filled(Numbers(count))
-}
-
-// Fills the front of the slice with the block's numbers, if every group is one and there is no tail: else 7, the first fault by
-// place (2 or 3 in a group, 1 for a tail), or 5; then the slice is as it was.
-pub fn read_strict(block: &[u8], numbers: &mut [u64]) -> ReadList
-    ensures { λ r. ⌜ ReadsStrict (now (block .entry)) (now (numbers .entry)) r (now (numbers .exit)) ⌝ }
-{
-    if BLOCK_LIMIT < block.len() {
-        return ReadList::Refused(Refusal::TooLong);
-    }
-    match scan(block) {
-        Scanned::Count(count) => {
-            if numbers.len() < count {
-                return ReadList::Refused(Refusal::NoRoom);
-            }
-            fill(block, numbers)
-        }
-        Scanned::Fault(refusal) => ReadList::Refused(refusal),
-    }
 }

@@ -1,7 +1,15 @@
-// Signed LEB128 in its shortest form, as DWARF 5 has it: numbers of 64 bits.
-//
-// The functions stand in crates of their own, so that each must-fail edit proves few of them anew.
-pub use sleb128_reading::ReadI64;
-pub use sleb128_reading::read_i64;
-pub use sleb128_writing::length_i64;
-pub use sleb128_writing::write_i64;
+// Signed LEB128 in its shortest form, as DWARF 5 has it: numbers of 64 bits in two's complement.
+mod reading;
+mod writing;
+
+pub use reading::read_i64;
+use words::Count;
+use words::Refusal;
+pub use writing::length_i64;
+pub use writing::write_i64;
+
+// What a reader answers: the number and its count of bytes, or why there is none.
+pub enum ReadI64 {
+    Number(i64, Count),
+    Refused(Refusal),
+}

@@ -1,13 +1,27 @@
-// Unsigned LEB128 in its shortest form: numbers of 64 bits, by loop and by recursion, and of 32 bits.
+// Unsigned LEB128 in its shortest form: numbers of 64 and of 32 bits.
 //
-// The functions stand in crates of their own, so that each must-fail edit proves few of them anew.
-pub use uleb128_reading::ReadU32;
-pub use uleb128_reading::ReadU64;
-pub use uleb128_reading::read_u32;
-pub use uleb128_reading::read_u64;
-pub use uleb128_recursive::read_u64_rec;
-pub use uleb128_recursive_writing::write_u64_rec;
-pub use uleb128_writing::length_u32;
-pub use uleb128_writing::length_u64;
-pub use uleb128_writing::write_u32;
-pub use uleb128_writing::write_u64;
+// A byte is seven bits of value, lowest first; a byte of 128 or more says that another follows. Zero takes one byte. So 128 is the
+// bytes 80 01: `write_u64(128, buffer, place)` lays them down, and `read_u64(buffer, place)` gives 128 and its count, 2.
+mod reading;
+mod writing;
+
+pub use reading::read_u32;
+pub use reading::read_u64;
+use words::Count;
+use words::Refusal;
+pub use writing::length_u32;
+pub use writing::length_u64;
+pub use writing::write_u32;
+pub use writing::write_u64;
+
+// What a reader of 64 bits answers: the number and its count of bytes, or why there is none.
+pub enum ReadU64 {
+    Number(u64, Count),
+    Refused(Refusal),
+}
+
+// The same for 32 bits.
+pub enum ReadU32 {
+    Number(u32, Count),
+    Refused(Refusal),
+}

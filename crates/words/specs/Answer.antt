@@ -3,7 +3,7 @@
 --   pick         one of two things, by a test
 --   both         two tests hold
 --   Answer A     what was asked for, or a refusal by its number
---   meaning      what a writer's answer says
+--   meansWritten      what a writer's answer says
 use Prim.Native.Nat.{ℕ}
 use mathlib.Core.Bool.{Bool, true, false}
 use Rattle.words.specs.Refusal.{numberOf}
@@ -22,6 +22,6 @@ pub data Answer (A : Type 0) : Type 0 where
   gives : A → Answer A
   refused : ℕ → Answer A
 
-abbrev pub meaning : Written → Answer ℕ
-meaning (Bytes n) = gives (n .0)
-meaning (Refused r) = refused (numberOf r)
+abbrev pub meansWritten : Written → Answer ℕ
+meansWritten (Bytes n) = gives (n .0)
+meansWritten (Refused r) = refused (numberOf r)

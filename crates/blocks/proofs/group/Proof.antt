@@ -1,6 +1,6 @@
 -- `blocks::group` keeps what it promises inside the crate.
 use mathlib.Core.Path.{ap}
-use Rattle.blocks.specs.Inner.{meaningReading}
+use Rattle.blocks.specs.Inner.{meansReading}
 use Rattle.blocks.proofs.Says.{said-number, said-gap}
 use borrow.Author.Needs.{needs}
 use Rattle.blocks.proofs.group.Statement.{statement}
@@ -16,10 +16,10 @@ enum-known-reading-2 : tie.Need-enum-known-reading-2
 enum-known-reading-2 c = search needs
 
 returns : tie.Need-returns
-returns c = said-number _ (c .before .before .before .past .ensures) (ap meaningReading (c .before .reading .given .1))
+returns c = said-number _ (c .before .before .before .past .ensures) (ap meansReading (c .before .reading .given .1))
 
 returns-2 : tie.Need-returns-2
-returns-2 c = said-gap _ (c .before .before .before .past .ensures) (ap meaningReading (c .before .reading2 .given .1))
+returns-2 c = said-gap _ (c .before .before .before .past .ensures) (ap meansReading (c .before .reading2 .given .1))
 
 pub group-spec : {M : Type 1} → statement M
 group-spec =

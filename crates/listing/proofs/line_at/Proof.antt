@@ -4,7 +4,7 @@ use mathlib.Core.Path.{_≡_, ap, sym, _∙_}
 use native.Mathlib.Omega.{arith}
 use borrow.Author.Needs.{needs}
 use Rattle.words.specs.Refusal.{numberOf}
-use Rattle.blocks.specs.Promise.{meaning}
+use Rattle.blocks.specs.Promise.{meansStep}
 use Rattle.blocks.specs.declared.Step.{Step}
 use Rattle.listing.specs.Listing.{at, lineOf, next}
 use Rattle.listing.proofs.Lines.{comes, none, refused, row-fits, fault-short}
@@ -20,8 +20,8 @@ place-fits c = start c .good .0 .1 .1 .0 .1 .1 .0 .1
 
 -- what comes next, in a case of the step's answer
 said : (c : tie.After-step) {x : Step} → c .step .result ≡ x
-    → next (start c .args .block .now) (at (start c .args .cursor .place .0)) ≡ lineOf (start c .args .cursor .place .0) (meaning x)
-said c e = ap (lineOf (start c .args .cursor .place .0)) (sym (c .step .ensures .is) ∙ ap meaning e)
+    → next (start c .args .block .now) (at (start c .args .cursor .place .0)) ≡ lineOf (start c .args .cursor .place .0) (meansStep x)
+said c e = ap (lineOf (start c .args .cursor .place .0)) (sym (c .step .ensures .is) ∙ ap meansStep e)
 
 step-requires : tie.Need-step-requires
 step-requires c κs = search needs

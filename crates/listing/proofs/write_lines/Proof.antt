@@ -3,25 +3,25 @@ use mathlib.Core.Path.{_≡_, refl, sym}
 use lib.ListN.{length}
 use lib.Seq.{length-take-le}
 use borrow.Author.Needs.{needs}
-use Rattle.listing.specs.Promise.{stageOf}
+use Rattle.listing.specs.Promise.{meansListing}
 use Rattle.listing.proofs.Left.{Fine, rank}
 use Rattle.listing.proofs.Taking.{Took, took}
 use Rattle.listing.proofs.write_lines.Statement.{statement}
 use Rattle.listing.proofs.write_lines.Tie as tie
 
 abbrev Inv-loop : tie.InvT-loop
-Inv-loop block line₀ listing₀ line listing = (length line ≡ length line₀) × Fine block (stageOf listing)
+Inv-loop block line₀ listing₀ line listing = (length line ≡ length line₀) × Fine block (meansListing listing)
 
 abbrev μ-loop : tie.MeasureT-loop
-μ-loop block line₀ listing₀ line listing = rank block (stageOf listing)
+μ-loop block line₀ listing₀ line listing = rank block (meansListing listing)
 
 abbrev asked : tie.After-known-told Inv-loop μ-loop → tie.After-next-line Inv-loop μ-loop
 asked c = c .before .before .before .before .before
 
 -- what the line that was given is
 line-took : (c : tie.After-known-told Inv-loop μ-loop)
-    → Took (asked c .before .before .before .before .before .args .block .now) (stageOf (asked c .before .before .loop .listing))
-    (c .before .count .given .0 .0 .0) (stageOf (c .before .count .given .0 .1 .0)) (asked c .next-line .last .1 .1 .0)
+    → Took (asked c .before .before .before .before .before .args .block .now) (meansListing (asked c .before .before .loop .listing))
+    (c .before .count .given .0 .0 .0) (meansListing (c .before .count .given .0 .1 .0)) (asked c .next-line .last .1 .1 .0)
 line-took c = took (asked c .before .before .loop .inv .1) (asked c .next-line .ensures) (c .before .count .given .1)
 
 loop-holds : tie.Need-loop-holds Inv-loop μ-loop

@@ -1,0 +1,89 @@
+-- `groups::walk` meets its promise: the loop holds `Going`, and each way out of it is a law of `Walking`.
+use Prim.Native.Nat.{_+_, _*_, _-_, _<_, _^_}
+use lib.ListN.{length}
+use borrow.Author.Needs.{needs}
+use native.Mathlib.Omega.{arith}
+use Rattle.groups.proofs.Walking.{Going, past, starts, closes, overruns, goes-on, runs-dry, part-fits, weight-fits}
+use Rattle.groups.proofs.reading.walk.Statement.{statement}
+use Rattle.groups.proofs.reading.walk.Tie as tie
+
+abbrev Inv-loop : tie.InvT-loop
+Inv-loop bytes at place₀ high₀ sum₀ weight₀ place high sum weight = Going bytes at place high sum weight
+
+abbrev μ-loop : tie.MeasureT-loop
+μ-loop bytes at place₀ high₀ sum₀ weight₀ place high sum weight = length bytes - place
+
+-- the loop's head, from where the byte's seven bits are taken
+abbrev head : tie.After-low-bits Inv-loop μ-loop → tie.At-loop Inv-loop μ-loop
+head c = c .before .before .before .before .before
+
+few : (c : tie.After-low-bits Inv-loop μ-loop) → head c .loop .high < 9
+few c = search needs
+
+fits : (c : tie.After-low-bits Inv-loop μ-loop) → head c .loop .sum + head c .loop .weight * c .low-bits .result < 2 ^ 63
+fits c = part-fits _ _ (head c .loop .inv) (c .low-bits .result) (few c) (omega (arith, c .low-bits .ensures))
+
+returns : tie.Need-returns Inv-loop μ-loop
+returns c = past _ _ (c .if1 .taken)
+
+loop-holds : tie.Need-loop-holds Inv-loop μ-loop
+loop-holds c = starts _ _ (c .if1 .left)
+
+shared-slice-read-b : tie.Need-shared-slice-read-b Inv-loop μ-loop
+shared-slice-read-b c = search needs
+
+returns-2 : tie.Need-returns-2 Inv-loop μ-loop
+returns-2 c = closes _ _ (c .before .before .before .loop .inv) (search needs) (c .if2 .taken)
+
+returns-3 : tie.Need-returns-3 Inv-loop μ-loop
+returns-3 c = overruns _ _ (c .before .before .before .before .loop .inv) (search needs) (c .before .if2 .left) (c .if3 .taken)
+
+low-bits-requires : tie.Need-low-bits-requires Inv-loop μ-loop
+low-bits-requires c κs = search needs
+
+mul-part : tie.Need-mul-part Inv-loop μ-loop
+mul-part c = omega (arith, fits c)
+
+add-sum : tie.Need-add-sum Inv-loop μ-loop
+add-sum c = omega (arith, fits c)
+
+mul-weight : tie.Need-mul-weight Inv-loop μ-loop
+mul-weight c = omega (arith, weight-fits _ _ (head c .loop .inv) (few c))
+
+add-high : tie.Need-add-high Inv-loop μ-loop
+add-high c = search needs
+
+add-place : tie.Need-add-place Inv-loop μ-loop
+add-place c = search needs
+
+loop-less : tie.Need-loop-less Inv-loop μ-loop
+loop-less c = search needs
+
+loop-again : tie.Need-loop-again Inv-loop μ-loop
+loop-again c =
+    rw (c .low-bits .ensures)
+    (goes-on _ _ (head c .loop .inv) (search needs) (c .before .before .if2 .left) (few c))
+
+returns-4 : tie.Need-returns-4 Inv-loop μ-loop
+returns-4 c = runs-dry _ _ (c .before .loop .inv) (c .loop-test .left)
+
+pub walk-spec : {M : Type 1} → statement M
+walk-spec =
+    tie.close
+    (tie.spec
+    Inv-loop
+    μ-loop
+    returns
+    loop-holds
+    shared-slice-read-b
+    returns-2
+    returns-3
+    low-bits-requires
+    mul-part
+    add-sum
+    mul-weight
+    add-high
+    add-place
+    loop-less
+    loop-again
+    returns-4)

@@ -1,0 +1,51 @@
+// The loop of the source's `serialize`, for every width, with the room known before the first byte is stored.
+use words::Count;
+use words::Place;
+use words::Refusal;
+use words::Written;
+ghost use mathlib.Core.Path.{_≡_};
+ghost use Prim.Native.Nat.{_<_};
+ghost use Rattle.groups.specs.Form.{say};
+ghost use Rattle.groups.specs.Promise.{Stores};
+
+// Seven bits as they are, or below zero their complement.
+fn said(bits: u8, below: bool) -> u8
+    requires { ⌜ bits < 128 ⌝ }
+    ensures { λ r. ⌜ r ≡ say below bits ⌝ }
+{
+    if below { 127 - bits } else { bits }
+}
+
+// Lays down count bytes that spell m (below zero: that spell -m-1 in two's complement), or none if they don't fit.
+pub fn store(m: u64, below: bool, count: Count, buffer: &mut [u8], place: Place) -> Written
+    ensures { λ r. ⌜ Stores m below (count .0) (now (buffer .entry)) (place .0) r (now (buffer .exit)) ⌝ }
+{
+    let at = place.0;
+    let n = count.0;
+    if buffer.len() < at {
+        return Written::Refused(Refusal::NoRoom);
+    }
+    let room = buffer.len() - at;
+    if room < n {
+        return Written::Refused(Refusal::NoRoom);
+    }
+    if n < 1 {
+        return Written::Bytes(count);
+    }
+    let more = n - 1;
+    let mut rest = m;
+    let mut i = 0;
+    while i < more {
+        let bits = (rest % 128) as u8;
+        let byte = 128 + said(bits, below);
+        let to = at + i;
+        buffer[to] = byte;
+        rest = rest / 128;
+        i += 1;
+    }
+    let bits = (rest % 128) as u8;
+    let byte = said(bits, below);
+    let to = at + more;
+    buffer[to] = byte;
+    Written::Bytes(count)
+}

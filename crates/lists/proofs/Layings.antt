@@ -1,0 +1,87 @@
+-- Laying a list's forms down one after another: what the loop holds, from what a writer of one number promises.
+use Prim.Native.Nat.{ℕ, suc, _+_, _-_, _≤_, _<_}
+use mathlib.Core.Path.{_≡_, refl, ap, sym, _∙_}
+use mathlib.Core.List.{List, [], _∷_, _++_}
+use native.Mathlib.Nat.{add-zero}
+use native.Mathlib.Omega.{arith}
+use borrow.Author.Tests.{le-leb, lt-ltb, le-ltb}
+use lib.ListN.{length, getD, drop, set}
+use lib.Seq.{sets, sets-eq, length-sets}
+use Rattle.words.specs.Answer.{gives, refused, meansWritten}
+use Rattle.words.specs.Refusal.{numberOf}
+use Rattle.words.specs.declared.Count.{Count}
+use Rattle.words.specs.declared.Refusal.{Refusal}
+use Rattle.words.specs.declared.Refusal.the-variants.{TooLong}
+use Rattle.words.specs.declared.Written.{Written}
+use Rattle.words.specs.declared.Written.the-variants.{Bytes, Refused}
+use Rattle.groups.specs.Laying.{writing, laid, Lays}
+use Rattle.groups.proofs.Layings.{lays}
+use Rattle.uleb128.specs.Unsigned.{form}
+use Rattle.lists.specs.Lists.{list-limit, forms}
+use Rattle.lists.specs.Promise.{WritesList}
+use Rattle.lists.proofs.Totals.{forms-next, forms-end, length-next}
+
+sets-append : (a b l : List ℕ) (i : ℕ) → sets l i (a ++ b) ≡ sets (sets l i a) (i + length a) b
+sets-append [] b l i = rw (add-zero i)
+sets-append (x ∷ a) b l i =
+    let e : i + length (x ∷ a) ≡ suc i + length a = omega arith in rw e (sets-append a b (set l i x) (suc i))
+
+-- what a writer's answer says where there is room
+module _ {bytes s : List ℕ} {at : ℕ} {r : Written} {out : List ℕ} (room : at + length bytes ≤ length s) (l : Lays bytes s at r out) where
+  pub laid-there : out ≡ sets s at bytes
+  unfolding laid
+  laid-there = l .leaves ∙ rw (le-leb (at + length bytes) (length s) room) (sym (sets-eq bytes s at room))
+
+  answers : meansWritten r ≡ gives (length bytes)
+  unfolding writing
+  answers = l .answer ∙ rw (le-leb (at + length bytes) (length s) room)
+
+  pub laid-count : {n : Count} → r ≡ Bytes n → n .0 ≡ length bytes
+  laid-count {n} e = let q : gives (n .0) ≡ gives (length bytes) = ap meansWritten (sym e) ∙ answers in cc
+
+  pub no-refusal : {X : Type 0} {k : Refusal} → r ≡ Refused k → X
+  no-refusal {k = k} e =
+      let q : refused (numberOf k) ≡ gives (length bytes) = ap meansWritten (sym e) ∙ answers in
+      let z : _≡_ {A = ℕ} 0 1 = cc in absurd (omega arith)
+
+-- the forms of i numbers are laid down, up to the place to
+pub record LaidSoFar (ns s : List ℕ) (at : ℕ) (out : List ℕ) (to i : ℕ) : Type 0 where
+  pub within : i ≤ length ns
+  pub kept : length out ≡ length s
+  pub behind : at ≤ to
+  pub ends : to + length (forms (drop i ns)) ≡ at + length (forms ns)
+  pub left : sets out to (forms (drop i ns)) ≡ sets s at (forms ns)
+
+module _ (ns s : List ℕ) (at : ℕ) (room : at + length (forms ns) ≤ length s) where
+  pub none-laid : LaidSoFar ns s at s at 0
+  none-laid = record { within = omega arith; kept = refl; behind = omega arith; ends = refl; left = refl }
+
+  module _ {out : List ℕ} {to i : ℕ} (g : LaidSoFar ns s at out to i) where
+    pub room-next : i < length ns → to + length (form (getD ns i 0)) ≤ length out
+    room-next h = omega (arith, g .ends, g .kept, length-next ns i h)
+
+    pub one-laid : i < length ns → {after : List ℕ} {n : ℕ} → after ≡ sets out to (form (getD ns i 0)) → n ≡ length (form (getD ns i 0))
+        → LaidSoFar ns s at after (to + n) (i + 1)
+    one-laid h {after} {n} e f =
+        record {
+          within = omega arith;
+          kept = ap length e ∙ length-sets out to (form (getD ns i 0)) ∙ g .kept;
+          behind = omega (arith, g .behind);
+          ends = omega (arith, g .ends, length-next ns i h);
+          left =
+              rw (e, f) (sym (sets-append (form (getD ns i 0)) (forms (drop (i + 1) ns)) out to)
+              ∙ ap (sets out to) (sym (forms-next ns i h)) ∙ g .left);
+        }
+
+    pub all-laid : length ns ≤ i → (n : Count) → n .0 ≡ to - at → Lays (forms ns) s at (Bytes n) out
+    all-laid h n e =
+        let z : forms (drop i ns) ≡ [] = forms-end ns i (g .within) h in
+        lays (forms ns) s at n room (omega (arith, g .ends, g .behind, ap length z))
+        ((rw z at (g .left)) ∙ sets-eq (forms ns) s at room)
+
+module _ (ns s : List ℕ) (at : ℕ) where
+  pub list-too-long : list-limit < length ns → WritesList ns s at (Refused TooLong) s
+  list-too-long h = let t = lt-ltb list-limit (length ns) h in record { answer = rw t; leaves = rw t }
+
+  pub list-laid : {r : Written} {out : List ℕ} → length ns ≤ list-limit → Lays (forms ns) s at r out → WritesList ns s at r out
+  list-laid h l = let t = le-ltb list-limit (length ns) h in record { answer = rw t (l .answer); leaves = rw t (l .leaves) }

@@ -1,0 +1,88 @@
+-- `lists::pass` keeps what it promises inside the crate: a law of `Passing` for each case of the step.
+use mathlib.Core.Path.{_≡_, ap, sym, _∙_}
+use borrow.Author.Needs.{needs}
+use Rattle.blocks.specs.Block.{stepping}
+use Rattle.blocks.specs.Promise.{meansStep}
+use Rattle.blocks.specs.declared.Rule.the-variants.{Unsigned}
+use Rattle.blocks.specs.declared.Step.{Step}
+use Rattle.lists.proofs.Passing.{pass-possible, pass-number, pass-gap, pass-tail}
+use Rattle.lists.proofs.reading.pass.Statement.{statement}
+use Rattle.lists.proofs.reading.pass.Tie as tie
+
+-- what a case of the step's answer says
+said : (c : tie.After-step) {x : Step} → c .step .result ≡ x
+    → meansStep x ≡ stepping Unsigned (c .before .before .args .block .now) (c .before .before .args .at)
+said c e = ap meansStep (sym e) ∙ c .step .ensures .is
+
+step-requires : tie.Need-step-requires
+step-requires c κs = search needs
+
+enum-known-value : tie.Need-enum-known-value
+enum-known-value c = search needs
+
+enum-known-value-2 : tie.Need-enum-known-value-2
+enum-known-value-2 c = search needs
+
+enum-told : tie.Need-enum-told
+enum-told c = search needs
+
+enum-known-refusal : tie.Need-enum-known-refusal
+enum-known-refusal c = search needs
+
+enum-told-2 : tie.Need-enum-told-2
+enum-told-2 c = search needs
+
+enum-told-3 : tie.Need-enum-told-3
+enum-told-3 c = search needs
+
+enum-known-refusal-2 : tie.Need-enum-known-refusal-2
+enum-known-refusal-2 c = search needs
+
+returns : tie.Need-returns
+returns c =
+    let s = c .before .before .before .before .before .before .before in
+    pass-number _ _ (s .before .before .pre) (rw (c .before .value2 .given .1) at (said s (c .before .before .before .before .before .value .given .1)))
+
+returns-2 : tie.Need-returns-2
+returns-2 c =
+    let s = c .before .before .before .before .before .before in
+    absurd (pass-possible _ _ (s .before .before .pre) (rw (c .enum-told .given .1) at (said s (c .before .before .before .before .value .given .1))))
+
+returns-3 : tie.Need-returns-3
+returns-3 c =
+    let s = c .before .before .before in
+    pass-gap _ _ (s .before .before .pre) (said s (c .before .refusal .given .1))
+
+returns-4 : tie.Need-returns-4
+returns-4 c =
+    let s = c .before .before in
+    pass-tail _ _ (s .before .before .pre) (said s (c .enum-told2 .given .1))
+
+returns-5 : tie.Need-returns-5
+returns-5 c =
+    let s = c .before .before in
+    absurd (pass-possible _ _ (s .before .before .pre) (said s (c .enum-told3 .given .1)))
+
+returns-6 : tie.Need-returns-6
+returns-6 c =
+    let s = c .before .before .before in
+    absurd (pass-possible _ _ (s .before .before .pre) (said s (c .before .refusal2 .given .1)))
+
+pub pass-spec : {M : Type 1} → statement M
+pass-spec =
+    tie.close
+    (tie.spec
+    step-requires
+    enum-known-value
+    enum-known-value-2
+    enum-told
+    enum-known-refusal
+    enum-told-2
+    enum-told-3
+    enum-known-refusal-2
+    returns
+    returns-2
+    returns-3
+    returns-4
+    returns-5
+    returns-6)

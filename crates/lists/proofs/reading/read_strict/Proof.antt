@@ -1,0 +1,55 @@
+-- `lists::read_strict` meets its promise: a law of `Answers` for each answer of the first pass; the second pass gives the rest.
+use mathlib.Core.Path.{_≡_, ap, sym, _∙_}
+use borrow.Author.Needs.{needs}
+use Rattle.lists.specs.Inner.{many, meansScanned}
+use Rattle.lists.specs.Strict.{numbers}
+use Rattle.lists.specs.declared.reading.Scanned.{Scanned}
+use Rattle.lists.proofs.Answers.{block-too-long, block-faulty, list-full, list-fits}
+use Rattle.lists.proofs.reading.read_strict.Statement.{statement}
+use Rattle.lists.proofs.reading.read_strict.Tie as tie
+
+-- what a case of the first pass's answer says
+told : (c : tie.After-scan) {x : Scanned} → c .scan .result ≡ x → meansScanned x ≡ many (numbers (c .before .before .before .before .args .block .now))
+told c e = ap meansScanned (sym e) ∙ c .scan .ensures .is
+
+returns : tie.Need-returns
+returns c = block-too-long _ _ (c .if1 .taken)
+
+scan-requires : tie.Need-scan-requires
+scan-requires c κs = search needs
+
+enum-known-count : tie.Need-enum-known-count
+enum-known-count c = search needs
+
+returns-2 : tie.Need-returns-2
+returns-2 c = list-full _ _ (search needs) (told (c .before .before .before .before) (c .before .before .count .given .1)) (c .if2 .taken)
+
+fill-requires : tie.Need-fill-requires
+fill-requires c κs =
+    list-fits _ (search needs) (told (c .before .before .before .before .before) (c .before .before .before .count .given .1)) (c .before .if2 .left)
+
+enum-known-refusal : tie.Need-enum-known-refusal
+enum-known-refusal c = search needs
+
+same-length : tie.Need-same-length
+same-length c = search needs
+
+returns-3 : tie.Need-returns-3
+returns-3 c = search needs
+
+returns-4 : tie.Need-returns-4
+returns-4 c = block-faulty _ _ (search needs) (told (c .before .before .before) (c .before .refusal .given .1))
+
+pub read-strict-spec : {M : Type 1} → statement M
+read-strict-spec =
+    tie.close
+    (tie.spec
+    returns
+    scan-requires
+    enum-known-count
+    returns-2
+    fill-requires
+    enum-known-refusal
+    same-length
+    returns-3
+    returns-4)

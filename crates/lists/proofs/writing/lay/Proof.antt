@@ -1,0 +1,109 @@
+-- `lists::lay` keeps what it promises inside the crate: the loop holds `LaidSoFar`, and each turn is a law of `Layings`.
+use Prim.Native.Nat.{_+_, _-_, _≤_}
+use mathlib.Core.Path.{refl}
+use native.Mathlib.Omega.{arith}
+use borrow.Author.Needs.{needs}
+use lib.ListN.{length, getD}
+use Rattle.uleb128.specs.Unsigned.{form}
+use Rattle.lists.proofs.Layings.{LaidSoFar, laid-there, laid-count, no-refusal, none-laid, room-next, one-laid, all-laid}
+use Rattle.lists.proofs.writing.lay.Statement.{statement}
+use Rattle.lists.proofs.writing.lay.Tie as tie
+
+abbrev Inv-loop : tie.InvT-loop
+Inv-loop numbers buffer₀ at to₀ i₀ buffer to i = LaidSoFar numbers buffer₀ at buffer to i
+
+abbrev μ-loop : tie.MeasureT-loop
+μ-loop numbers buffer₀ at to₀ i₀ buffer to i = length numbers - i
+
+-- where a number was written, and the loop's head before it
+abbrev wrote : tie.After-known-told Inv-loop μ-loop → tie.After-write-u64 Inv-loop μ-loop
+wrote c = c .before .before .before .before .before
+
+abbrev head : tie.After-write-u64 Inv-loop μ-loop → tie.At-loop Inv-loop μ-loop
+head w = w .before .before .before .before
+
+abbrev entry : tie.After-write-u64 Inv-loop μ-loop → tie.Start Inv-loop μ-loop
+entry w = head w .before .before .before
+
+there : (w : tie.After-write-u64 Inv-loop μ-loop)
+    → head w .loop .to + length (form (getD (entry w .args .numbers .now) (head w .loop .i) 0)) ≤ length (head w .loop .buffer)
+there w = room-next _ _ _ (entry w .pre) (head w .loop .inv) (w .before .before .before .loop-test .taken)
+
+again : (c : tie.After-known-told Inv-loop μ-loop)
+    → LaidSoFar (entry (wrote c) .args .numbers .now) (entry (wrote c) .args .buffer .now) (entry (wrote c) .args .at)
+    (wrote c .write-u64 .last .1 .0) (head (wrote c) .loop .to + c .before .count .given .0 .0 .0) (head (wrote c) .loop .i + 1)
+again c =
+    let w = wrote c in
+    one-laid _ _ _ (entry w .pre) (head w .loop .inv) (w .before .before .before .loop-test .taken)
+    (laid-there (there w) (w .write-u64 .ensures)) (laid-count (there w) (w .write-u64 .ensures) (c .before .count .given .1))
+
+loop-holds : tie.Need-loop-holds Inv-loop μ-loop
+loop-holds c = none-laid _ _ _ (c .before .before .pre)
+
+mul-v : tie.Need-mul-v Inv-loop μ-loop
+mul-v c = search needs
+
+shared-slice-read-v : tie.Need-shared-slice-read-v Inv-loop μ-loop
+shared-slice-read-v c = search needs
+
+write-u64-requires : tie.Need-write-u64-requires Inv-loop μ-loop
+write-u64-requires c κs = search needs
+
+enum-known-count : tie.Need-enum-known-count Inv-loop μ-loop
+enum-known-count c = search needs
+
+add-to : tie.Need-add-to Inv-loop μ-loop
+add-to c = omega (arith, again c .ends, entry (wrote c) .pre)
+
+add-i : tie.Need-add-i Inv-loop μ-loop
+add-i c = search needs
+
+loop-less : tie.Need-loop-less Inv-loop μ-loop
+loop-less c = search needs
+
+loop-again : tie.Need-loop-again Inv-loop μ-loop
+loop-again c = again c
+
+enum-known-refusal : tie.Need-enum-known-refusal Inv-loop μ-loop
+enum-known-refusal c = search needs
+
+same-length : tie.Need-same-length Inv-loop μ-loop
+same-length c =
+    let w = c .before .before .before .before .before in
+    no-refusal (there w) (w .write-u64 .ensures) (c .before .refusal .given .1)
+
+returns : tie.Need-returns Inv-loop μ-loop
+returns c =
+    let w = c .before .before .before .before .before in
+    no-refusal (there w) (w .write-u64 .ensures) (c .before .refusal .given .1)
+
+sub-total : tie.Need-sub-total Inv-loop μ-loop
+sub-total c = search needs
+
+same-length-2 : tie.Need-same-length-2 Inv-loop μ-loop
+same-length-2 c = search needs
+
+returns-2 : tie.Need-returns-2 Inv-loop μ-loop
+returns-2 c = all-laid _ _ _ (c .before .before .before .before .pre) (c .before .loop .inv) (c .loop-test .left) _ refl
+
+pub lay-spec : {M : Type 1} → statement M
+lay-spec =
+    tie.close
+    (tie.spec
+    Inv-loop
+    μ-loop
+    loop-holds
+    mul-v
+    shared-slice-read-v
+    write-u64-requires
+    enum-known-count
+    add-to
+    add-i
+    loop-less
+    loop-again
+    enum-known-refusal
+    same-length
+    returns
+    sub-total
+    same-length-2
+    returns-2)

@@ -1,0 +1,89 @@
+-- `sleb128::read_i64` meets its promise: what the walk told is a law over the width, and of a group that closes a law of `ClosedGroups`.
+use native.Mathlib.Omega.{arith}
+use borrow.Author.Needs.{needs}
+use denote.Ref.{now}
+use Rattle.groups.proofs.Rows.{read-past, keeps, passes}
+use Rattle.groups.proofs.Walks.{told, Closing, closed-below, open-short, overrun}
+use Rattle.sleb128.specs.Signed.{i64}
+use Rattle.sleb128.proofs.Widths.{sound}
+use Rattle.sleb128.proofs.ClosedGroups.{closes-above, closes-below, reads-above, reads-below}
+use Rattle.sleb128.proofs.reading.read_i64.Statement.{statement}
+use Rattle.sleb128.proofs.reading.read_i64.Tie as tie
+
+abbrev start : tie.After-sum → tie.Start
+start c = c .before .before .before .before
+
+-- the walk came to a byte below 128
+closing : (c : tie.After-sum)
+    → Closing (now (start c .args .bytes)) (start c .args .start .0) (c .sum .given .0 .0) (c .sum .given .0 .1 .0)
+    (c .sum .given .0 .1 .1 .0) (c .sum .given .0 .1 .1 .1 .0)
+closing c = told _ _ (c .before .before .walk .ensures) (c .sum .given .1)
+
+walk-requires : tie.Need-walk-requires
+walk-requires c κs = search needs
+
+enum-told : tie.Need-enum-told
+enum-told c = search needs
+
+enum-told-2 : tie.Need-enum-told-2
+enum-told-2 c = search needs
+
+enum-told-3 : tie.Need-enum-told-3
+enum-told-3 c = search needs
+
+enum-known-sum : tie.Need-enum-known-sum
+enum-known-sum c = search needs
+
+closed-requires : tie.Need-closed-requires
+closed-requires c κs = closes-above (closing (c .before .before)) (c .if1 .taken)
+
+returns : tie.Need-returns
+returns c = passes (reads-above (closing (c .before .before .before)) (c .before .if1 .taken)) (c .closed .ensures)
+
+sub-up : tie.Need-sub-up
+sub-up c = omega (arith, closed-below (closing (c .before .before)))
+
+sub-low : tie.Need-sub-low
+sub-low c = omega (arith, closed-below (closing (c .before .before)))
+
+sub-bits : tie.Need-sub-bits
+sub-bits c = omega (arith, closing (c .before .before) .low)
+
+closed-requires-2 : tie.Need-closed-requires-2
+closed-requires-2 c κs = closes-below (closing (c .before .before)) (c .if1 .left)
+
+returns-2 : tie.Need-returns-2
+returns-2 c = keeps (read-past i64 _ _ (told _ _ (c .before .before .walk .ensures) (c .enum-told .given .1)))
+
+returns-3 : tie.Need-returns-3
+returns-3 c =
+    let q = told _ _ (c .before .before .walk .ensures) (c .enum-told2 .given .1) in
+    keeps (open-short i64 sound _ _ q (q .few))
+
+returns-4 : tie.Need-returns-4
+returns-4 c =
+    let q = told _ _ (c .before .before .walk .ensures) (c .enum-told3 .given .1) in
+    keeps (overrun i64 sound _ _ (q .here) (q .many))
+
+returns-5 : tie.Need-returns-5
+returns-5 c = passes (reads-below (closing (c .before .before .before)) (c .before .if1 .left)) (c .closed2 .ensures)
+
+pub read-i64-spec : {M : Type 1} → statement M
+read-i64-spec =
+    tie.close
+    (tie.spec
+    walk-requires
+    enum-told
+    enum-told-2
+    enum-told-3
+    enum-known-sum
+    closed-requires
+    returns
+    sub-up
+    sub-low
+    sub-bits
+    closed-requires-2
+    returns-2
+    returns-3
+    returns-4
+    returns-5)

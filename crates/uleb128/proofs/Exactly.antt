@@ -1,0 +1,55 @@
+-- A reading at an unsigned width accepts exactly the forms of the numbers below the width's limit.
+use Prim.Native.Nat.{ℕ, _+_, _-_, _*_, _^_, _<_}
+use mathlib.Core.Path.{_≡_, ap, sym, _∙_}
+use mathlib.Core.List.{List}
+use mathlib.Core.Bool.{false}
+use native.Mathlib.Omega.{arith}
+use lib.ListN.{length}
+use Rattle.words.specs.Answer.{Answer, gives}
+use Rattle.groups.specs.Group.{Bytes, run}
+use Rattle.groups.specs.Width.{read}
+use Rattle.groups.specs.Begins.{Begins}
+use Rattle.groups.proofs.Run.{at-run}
+use Rattle.groups.proofs.Spelling.{said, said-digits, spelled-said}
+use Rattle.groups.proofs.Exact.{accepts, accepted, group-length}
+use Rattle.groups.proofs.Standing.{stands, standing}
+use Rattle.uleb128.specs.Unsigned.{form, unsigned}
+use Rattle.uleb128.specs.Promise.{meansReadU64}
+use Rattle.uleb128.specs.declared.ReadU64.{ReadU64}
+use Rattle.uleb128.proofs.Forms.{form-spelled}
+use Rattle.uleb128.proofs.Widths.{sound, spells}
+
+-- the numbers of the width: below 2 to the 64 for 10 and 1, below 2 to the 32 for 5 and 15
+abbrev pub Under : ℕ → ℕ → ℕ → Type 0
+Under most top v = v < 128 ^ (most - 1) * (top + 1)
+
+module _ (most top : ℕ) (some : 0 < most) (low : top < 128) (s : List ℕ) (at : ℕ) {v n : ℕ} where
+  pub read-begins : Bytes s → read (unsigned most top) s at ≡ gives (v, n) → Begins form (Under most top) s at v n
+  unfolding form
+  read-begins bytes e =
+      let g = stands (unsigned most top) s at (sound most top some low) bytes e in
+      let closed : run (g .group) < length (g .group) = omega (arith, group-length (g .is-group)) in
+      let d : said false (g .group) ≡ v = said-digits (g .group) ∙ sym (g .value) in
+      let a = accepted (spells most top some low) (g .is-group) (at-run (g .group) closed) (g .not-large) (g .not-many) in
+      let f : g .group ≡ form v = a .0 ∙ ap form d in
+      record { here = g .here; of-width = rw d at (a .1); rest = g .rest; begins = g .begins ∙ rw f; count = g .count ∙ ap length f }
+
+  pub begins-read : Begins form (Under most top) s at v n → read (unsigned most top) s at ≡ gives (v, n)
+  unfolding form
+  begins-read b =
+      let a = accepts (spells most top some low) (b .of-width) in
+      standing (unsigned most top) s at (record {
+        here = b .here;
+        group = form v;
+        rest = b .rest;
+        begins = b .begins;
+        is-group = a .0;
+        not-large = a .1;
+        not-many = a .2;
+        value = sym (sym (said-digits (form v)) ∙ spelled-said (omega arith) (form-spelled v));
+        count = b .count;
+      })
+
+-- what is read is what an answer's case says
+pub case-read : {a : Answer (ℕ × ℕ)} {r q : ReadU64} → meansReadU64 r ≡ a → r ≡ q → a ≡ meansReadU64 q
+case-read p e = sym p ∙ ap meansReadU64 e

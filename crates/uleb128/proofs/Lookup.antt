@@ -1,0 +1,42 @@
+-- The table of growth values: its rule, tested once over the whole table, and what looking a number up in it tells.
+use Prim.Native.Nat.{ℕ, zero, suc, _+_, _^_, _≤_, _<_}
+use mathlib.Core.Path.{_≡_, ap, _∙_}
+use mathlib.Core.List.{List, [], _∷_}
+use native.Mathlib.Omega.{arith}
+use native.Mathlib.Nat.{add-zero}
+use lib.ListN.{length, getD}
+use Rattle.uleb128.specs.Unsigned.{form}
+use Rattle.uleb128.specs.Promise.{LengthU64}
+use Rattle.uleb128.proofs.Forms.{form-short, form-long}
+
+-- n values of f, from i on
+table : (ℕ → ℕ) → ℕ → ℕ → List ℕ
+table f i zero = []
+table f i (suc n) = f i ∷ table f (suc i) n
+
+table-at : (f : ℕ → ℕ) (i n k : ℕ) → k < n → getD (table f i n) k 0 ≡ f (i + k)
+unfolding table
+table-at f i zero k h = absurd (omega arith)
+table-at f i (suc n) zero h = rw (add-zero i)
+table-at f i (suc n) (suc k) h = table-at f (suc i) n k (omega arith) ∙ ap f (omega arith)
+
+abbrev pub growth : List ℕ
+growth =
+    128 ∷ 16384 ∷ 2097152 ∷ 268435456 ∷ 34359738368 ∷ 4398046511104 ∷ 562949953421312 ∷ 72057594037927936 ∷ 9223372036854775808 ∷ []
+
+growth-at : (i : ℕ) → i < 9 → getD growth i 0 ≡ 128 ^ (i + 1)
+unfolding table
+growth-at i h = table-at (λ (k : ℕ). 128 ^ (k + 1)) 0 9 i h ∙ ap (λ (k : ℕ). 128 ^ (k + 1)) (omega arith)
+
+module _ (v i : ℕ) (few : i < 9) where
+  pub found : i < length (form v) → v < getD growth i 0 → LengthU64 v (record { 0 = i + 1 })
+  found h l = record { is = omega (arith, form-short v i (rw (← (growth-at i few)) l)) }
+
+  pub passed : getD growth i 0 ≤ v → i + 1 < length (form v)
+  passed l = form-long v i (rw (← (growth-at i few)) l)
+
+pub at-most-ten : (v : ℕ) → v < 2 ^ 64 → length (form v) ≤ 10
+at-most-ten v h = form-short v 9 (omega arith)
+
+pub all-passed : (v : ℕ) → v < 2 ^ 64 → 9 < length (form v) → LengthU64 v (record { 0 = 10 })
+all-passed v f h = record { is = omega (arith, at-most-ten v f) }

@@ -1,0 +1,68 @@
+-- Unsigned widths: their rules are those of spelling, and what a walk's answer then says at a width.
+use Prim.Native.Nat.{ℕ, _+_, _-_, _*_, _^_, _≤_, _<_}
+use mathlib.Core.Path.{_≡_, refl, _∙_}
+use mathlib.Core.List.{List}
+use mathlib.Core.Bool.{false}
+use native.Mathlib.Nat.{pos-of-ne-zero}
+use native.Mathlib.Omega.{arith}
+use borrow.Author.Tests.{le-leb, lt-leb, eq-eqb, ne-eqb, eqb-false}
+use lib.ListN.{length, drop}
+use Rattle.words.specs.Answer.{gives, refused}
+use Rattle.groups.specs.Group.{run}
+use Rattle.groups.specs.Width.{Reads}
+use Rattle.groups.proofs.Rows.{read-past, keeps}
+use Rattle.groups.proofs.Walks.{Sound, Opening, Closing, overrun, open-short, closed-large, closed-many, closed-number, closed-digits, closed-limit}
+use Rattle.groups.proofs.Exact.{Spells}
+use Rattle.uleb128.specs.Unsigned.{unsigned}
+use Rattle.uleb128.specs.Inner.{Wide}
+
+pub sound : (most top : ℕ) → 0 < most → top < 128 → Sound (unsigned most top)
+sound most top h l = record { some = h; low = λ b hi. lt-leb b top (omega arith) }
+
+pub spells : (most top : ℕ) → 0 < most → top < 128 → Spells (unsigned most top) false 128 top
+spells most top h l =
+    record {
+      sound = sound most top h l;
+      some = omega arith;
+      low = omega arith;
+      under = l;
+      allowed = λ b p q. refl;
+      needed = λ before b p q. (
+        λ e. let n : 0 < b = pos-of-ne-zero (eqb-false b 0 e) in omega arith,
+        λ e. ne-eqb b 0 (λ z. omega arith),
+      );
+    }
+
+-- what an answer says, by what the walk told
+module _ (most top : ℕ) (wide : Wide most top) (s : List ℕ) (at : ℕ) where
+  wide-sound : Sound (unsigned most top)
+  wide-sound = sound most top (omega (arith, wide .some)) (wide .low)
+
+  pub says-past : length s < at → Reads (unsigned most top) s at (refused 4)
+  says-past h = keeps (read-past (unsigned most top) s at h)
+
+  pub says-end : {high : ℕ} → Opening s at high → high < most → Reads (unsigned most top) s at (refused 1)
+  says-end o h = keeps (open-short (unsigned most top) wide-sound s at o h)
+
+  pub says-overrun : at ≤ length s → most ≤ run (drop at s) → Reads (unsigned most top) s at (refused 2)
+  says-overrun h m = keeps (overrun (unsigned most top) wide-sound s at h m)
+
+  module _ {sum weight high last : ℕ} (c : Closing s at sum weight high last) where
+    pub says-large : high + 1 ≡ most → top < last → Reads (unsigned most top) s at (refused 2)
+    says-large e h = keeps (closed-large (unsigned most top) wide-sound s at c e (lt-leb last top h))
+
+    pub says-many : high < most → 0 < high → last < 1 → Reads (unsigned most top) s at (refused 3)
+    says-many m h z =
+        keeps
+        (closed-many (unsigned most top) wide-sound s at c (omega arith) (λ e. le-leb last top (omega arith)) h (eq-eqb last 0 (omega arith)))
+
+    module _ (m : high < most) (l : high + 1 ≡ most → last ≤ top) where
+      pub says-number : (0 < high → 0 < last) → Reads (unsigned most top) s at (gives (sum + weight * last, high + 1))
+      says-number n =
+          keeps
+          (closed-number (unsigned most top) wide-sound s at c (omega arith) (λ e. le-leb last top (l e))
+          (λ h. ne-eqb last 0 (λ z. omega (arith, n h)))
+          ∙ rw (closed-digits c))
+
+      pub number-fits : sum + weight * last < 2 ^ 64
+      number-fits = omega (arith, wide .fits, closed-limit c (most - 1) top (omega arith) (λ e. l (omega (arith, wide .some))))

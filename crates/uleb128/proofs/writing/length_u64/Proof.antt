@@ -1,0 +1,55 @@
+-- `uleb128::length_u64` meets its promise: more bytes than growth values passed, until one is larger than the number.
+use Prim.Native.Nat.{_-_, _<_}
+use native.Mathlib.Omega.{arith}
+use borrow.Author.Needs.{needs}
+use lib.ListN.{length}
+use Rattle.uleb128.specs.Unsigned.{form}
+use Rattle.uleb128.proofs.Forms.{form-some}
+use Rattle.uleb128.proofs.Lookup.{found, passed, all-passed}
+use Rattle.uleb128.proofs.writing.length_u64.Statement.{statement}
+use Rattle.uleb128.proofs.writing.length_u64.Tie as tie
+
+abbrev Inv-loop : tie.InvT-loop
+Inv-loop v i₀ i = i < length (form v)
+
+abbrev μ-loop : tie.MeasureT-loop
+μ-loop v i₀ i = 9 - i
+
+loop-holds : tie.Need-loop-holds Inv-loop μ-loop
+loop-holds c = form-some _
+
+mul-growth : tie.Need-mul-growth Inv-loop μ-loop
+mul-growth c = search needs
+
+array-read-growth : tie.Need-array-read-growth Inv-loop μ-loop
+array-read-growth c = search needs
+
+add-n : tie.Need-add-n Inv-loop μ-loop
+add-n c = search needs
+
+returns : tie.Need-returns Inv-loop μ-loop
+returns c = found _ _ (search needs) (c .before .before .loop .inv) (c .if1 .taken)
+
+loop-less : tie.Need-loop-less Inv-loop μ-loop
+loop-less c = search needs
+
+loop-again : tie.Need-loop-again Inv-loop μ-loop
+loop-again c = passed _ _ (search needs) (c .if1 .left)
+
+returns-2 : tie.Need-returns-2 Inv-loop μ-loop
+returns-2 c = all-passed _ (search needs) (omega arith)
+
+pub length-u64-spec : {M : Type 1} → statement M
+length-u64-spec =
+    tie.close
+    (tie.spec
+    Inv-loop
+    μ-loop
+    loop-holds
+    mul-growth
+    array-read-growth
+    add-n
+    returns
+    loop-less
+    loop-again
+    returns-2)

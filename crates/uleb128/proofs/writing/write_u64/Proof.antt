@@ -1,0 +1,22 @@
+-- `uleb128::write_u64` meets its promise: as many groups of seven bits as the form is long are the form.
+use borrow.Author.Needs.{needs}
+use native.Mathlib.Omega.{arith}
+use Rattle.groups.proofs.Spelling.{spelled-laid}
+use Rattle.uleb128.proofs.Forms.{form-spelled}
+use Rattle.uleb128.proofs.writing.write_u64.Statement.{statement}
+use Rattle.uleb128.proofs.writing.write_u64.Tie as tie
+
+length-u64-requires : tie.Need-length-u64-requires
+length-u64-requires c κs = search needs
+
+store-requires : tie.Need-store-requires
+store-requires c κs = search needs
+
+same-length : tie.Need-same-length
+same-length c = search needs
+
+returns : tie.Need-returns
+returns c = spelled-laid (omega arith) (form-spelled _) (c .before .before .before .before .length-u64 .ensures .is) (c .before .before .store .ensures)
+
+pub write-u64-spec : {M : Type 1} → statement M
+write-u64-spec = tie.close (tie.spec length-u64-requires store-requires same-length returns)

@@ -1,0 +1,3 @@
+pub mod Unsigned
+pub mod Promise
+pub mod Inner

@@ -1,0 +1,84 @@
+// The loop reader, over the width: 64 and 32 bits differ in the most bytes and in the last byte allowed at that length. It is a
+// port of secure-foundations/vest, `leb128.rs`, `parse` (NOTICE).
+use crate::ReadU32;
+use crate::ReadU64;
+use groups::Walked;
+use groups::walk;
+use words::Count;
+use words::Place;
+use words::Refusal;
+ghost use mathlib.Core.Path.{_≡_};
+ghost use Prim.Native.Nat.{_+_, _*_, _^_, _<_};
+ghost use Rattle.uleb128.specs.Unsigned.{unsigned};
+ghost use Rattle.uleb128.specs.Inner.{Wide};
+ghost use Rattle.uleb128.specs.Promise.{Reads64, ReadsU64, ReadsU32};
+
+// The number of a group: its high bytes sum to sum, and its last byte weighs weight.
+fn number(sum: u64, weight: u64, high: usize, last: u8) -> ReadU64
+    requires { ⌜ (sum + weight * last < 2 ^ 64) × (high < 10) ⌝ }
+    ensures { λ r. ⌜ r ≡ ReadU64.Number (sum + weight * last) (record { 0 = high + 1 }) ⌝ }
+{
+    let part = weight * (last as u64);
+    ReadU64::Number(sum + part, Count(high + 1))
+}
+
+// A number of at most most bytes, whose last byte at that length is at most top.
+fn read_width(bytes: &[u8], start: Place, most: usize, top: u8) -> ReadU64
+    requires { ⌜ Wide most top ⌝ }
+    ensures { λ r. ⌜ Reads64 (unsigned most top) (now (bytes .entry)) (start .0) r ⌝ }
+{
+    match walk(bytes, start) {
+        Walked::Past => ReadU64::Refused(Refusal::Place),
+        Walked::Open(high) => {
+            if high < most {
+                return ReadU64::Refused(Refusal::End);
+            }
+            ReadU64::Refused(Refusal::Overflow)
+        }
+        Walked::Long => ReadU64::Refused(Refusal::Overflow),
+        Walked::Closed {
+            sum,
+            weight,
+            high,
+            last,
+        } => {
+            if most <= high {
+                return ReadU64::Refused(Refusal::Overflow);
+            }
+            if high < 1 {
+                return number(sum, weight, high, last);
+            }
+            if last < 1 {
+                return ReadU64::Refused(Refusal::NotShortest);
+            }
+            let n = high + 1;
+            if n < most {
+                return number(sum, weight, high, last);
+            }
+            if top < last {
+                return ReadU64::Refused(Refusal::Overflow);
+            }
+            number(sum, weight, high, last)
+        }
+    }
+}
+
+// The number whose shortest form stands at the start, with its count of bytes; else 4, 1, 2 or 3.
+pub fn read_u64(bytes: &[u8], start: Place) -> ReadU64
+    ensures { λ r. ⌜ ReadsU64 (now (bytes .entry)) (start .0) r ⌝ }
+{
+    read_width(bytes, start, 10, 1)
+}
+
+// The same for a number of 32 bits.
+pub fn read_u32(bytes: &[u8], start: Place) -> ReadU32
+    ensures { λ r. ⌜ ReadsU32 (now (bytes .entry)) (start .0) r ⌝ }
+{
+    match read_width(bytes, start, 5, 15) {
+        ReadU64::Number(v, n) => {
+            let narrow = v as u32;
+            ReadU32::Number(narrow, n)
+        }
+        ReadU64::Refused(refusal) => ReadU32::Refused(refusal),
+    }
+}

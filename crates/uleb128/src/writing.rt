@@ -1,0 +1,57 @@
+// The length of a number's form, looked up, and the loop writer. A number's form is the same at 64 and at 32 bits. They are a port
+// of secure-foundations/vest, `leb128.rs`, `length` and `serialize` (NOTICE), mended at zero.
+use groups::store;
+use words::Count;
+use words::Place;
+use words::Written;
+ghost use Rattle.uleb128.specs.Promise.{LengthU64, LengthU32, WritesU64, WritesU32};
+
+// The values at which a 64-bit number grows by a byte.
+const GROWTH: [u64; 9] = [
+    128,
+    16384,
+    2097152,
+    268435456,
+    34359738368,
+    4398046511104,
+    562949953421312,
+    72057594037927936,
+    9223372036854775808,
+];
+
+// How many bytes the number takes: 1 to 10.
+pub fn length_u64(v: u64) -> Count
+    ensures { λ r. ⌜ LengthU64 v r ⌝ }
+{
+    let mut i = 0;
+    while i < 9 {
+        let growth = GROWTH[i];
+        let n = i + 1;
+        if v < growth {
+            return Count(n);
+        }
+        i = n;
+    }
+    Count(10)
+}
+
+// How many bytes the number takes: 1 to 5.
+pub fn length_u32(v: u32) -> Count
+    ensures { λ r. ⌜ LengthU32 v r ⌝ }
+{
+    length_u64(v as u64)
+}
+
+// Lays the number's form down at the place and answers its count of bytes; else 5, and no byte is changed.
+pub fn write_u64(v: u64, buffer: &mut [u8], place: Place) -> Written
+    ensures { λ r. ⌜ WritesU64 v (now (buffer .entry)) (place .0) r (now (buffer .exit)) ⌝ }
+{
+    store(v, false, length_u64(v), buffer, place)
+}
+
+// The same for a number of 32 bits.
+pub fn write_u32(v: u32, buffer: &mut [u8], place: Place) -> Written
+    ensures { λ r. ⌜ WritesU32 v (now (buffer .entry)) (place .0) r (now (buffer .exit)) ⌝ }
+{
+    write_u64(v as u64, buffer, place)
+}

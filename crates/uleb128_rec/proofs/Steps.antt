@@ -1,0 +1,164 @@
+-- The recursive forms, a byte at a time. Reading: a byte of 128 or more stands in front of a reading of one byte less at the
+-- next place. Writing: a byte stored in front of the rest.
+use Prim.Native.Nat.{ℕ, suc, _+_, _-_, _*_, _%_, _^_, _≤_, _<_}
+use mathlib.Core.Path.{_≡_, refl, ap, sym, _∙_, subst}
+use mathlib.Core.List.{List, [], _∷_}
+use mathlib.Core.Bool.{Bool, true, false}
+use native.Mathlib.Nat.{add-zero, mul-pos, mod-eq-of-lt}
+use native.Mathlib.Numerals.{add-one}
+use native.Mathlib.Omega.{arith}
+use borrow.Author.Tests.{lt-ltb, le-ltb, le-leb, lt-leb, eq-eqb, ne-eqb}
+use lib.Dec.{ltb, eqb, leb·suc-suc, eqb·suc-suc}
+use lib.ListN.{length, getD, take, drop, drop-of-length-le, List·getD-eq-default}
+use lib.Seq.{drop-cons}
+use Rattle.words.specs.Answer.{pick, Answer, gives, refused}
+use Rattle.words.proofs.Cases.{by-order, both-false}
+use Rattle.words.specs.declared.Count.{Count}
+use Rattle.groups.specs.Group.{Bytes, run, digits}
+use Rattle.groups.specs.Width.{runsOut, tooLarge, tooMany, reading, read, Reads}
+use Rattle.groups.proofs.Run.{run-low, run-high, at-run, digits-take, pow-up}
+use Rattle.groups.proofs.Rows.{read-from, row-end, row-large, row-number, keeps}
+use Rattle.groups.proofs.Walks.{overrun}
+use Rattle.groups.proofs.Standing.{stands, count-within}
+use Rattle.uleb128.specs.Unsigned.{unsigned}
+use Rattle.uleb128_rec.specs.Inner.{ahead, Joins}
+use Rattle.uleb128.specs.Promise.{meansReadU64}
+use Rattle.uleb128.specs.declared.ReadU64.{ReadU64}
+use Rattle.uleb128.specs.declared.ReadU64.the-variants.{Number}
+use Rattle.uleb128.proofs.Widths.{sound}
+use Rattle.uleb128.proofs.Exactly.{read-begins}
+
+-- a number that is one byte 0
+zero-alone : (l : List ℕ) → run l ≡ 0 → getD l (run l) 0 ≡ 0 → digits (take (run l + 1) l) ≡ 0
+unfolding run digits
+zero-alone [] e z = refl
+zero-alone (c ∷ l) e z = let z′ : c ≡ 0 = rw e at z in rw (e, z′)
+
+-- a last byte above 0
+above-zero : (l : List ℕ) → 0 < getD l (run l) 0 → 0 < digits (take (run l + 1) l)
+above-zero l h =
+    by-order (run l) (length l)
+    (λ in-l.
+    let m : getD l (run l) 0 % 128 ≡ getD l (run l) 0 = mod-eq-of-lt (at-run l in-l) in
+    let p : 0 < 128 ^ run l * (getD l (run l) 0 % 128) = mul-pos (pow-up 0 (run l) (omega arith)) (omega arith) in
+    omega (arith, digits-take l (run l) in-l))
+    (λ out. let z : getD l (run l) 0 ≡ 0 = List·getD-eq-default l 0 out in absurd (omega arith))
+
+ahead-pick : (b k : ℕ) (t : Bool) (a : Answer (ℕ × ℕ)) → ahead b (pick t (refused k) a) ≡ pick t (refused k) (ahead b a)
+ahead-pick b k true a = refl
+ahead-pick b k false a = refl
+
+module _ (k top : ℕ) (some : 0 < k) (b : ℕ) (l : List ℕ) (hi : 128 ≤ b) where
+  out-step : runsOut (unsigned (suc k) top) (b ∷ l) ≡ runsOut (unsigned k top) l
+  unfolding runsOut
+  out-step = rw (run-high b l hi, eqb·suc-suc (run l) (length l), leb·suc-suc (suc (run l)) k)
+
+  large-step : tooLarge (unsigned (suc k) top) (b ∷ l) ≡ tooLarge (unsigned k top) l
+  unfolding tooLarge
+  large-step =
+      let i : suc k - 1 ≡ suc (k - 1) = omega arith in
+      let j : suc (run l) + 1 ≡ suc (run l + 1) = omega arith in
+      rw (run-high b l hi, i, j, leb·suc-suc k (run l + 1))
+
+  many-step : tooMany (unsigned (suc k) top) (b ∷ l) ≡ eqb (getD l (run l) 0) 0
+  unfolding tooMany
+  many-step = rw (run-high b l hi, lt-ltb 0 (suc (run l)) (omega arith))
+
+  -- what is read behind the byte is 0 exactly where its last byte is 0 and it has no other
+  last-step : (x : Answer (ℕ × ℕ)) → pick (eqb (getD l (run l) 0) 0) (refused 3) x
+      ≡ pick (tooMany (unsigned k top) l) (refused 3) (pick (eqb (digits (take (run l + 1) l)) 0) (refused 3) x)
+  unfolding tooMany
+  last-step x =
+      let b = getD l (run l) 0 in
+      by-order b 1
+      (λ z.
+      by-order 0 (run l)
+      (λ p. rw (eq-eqb b 0 (omega arith), lt-ltb 0 (run l) p))
+      (λ p.
+      let v : digits (take (run l + 1) l) ≡ 0 = zero-alone l (omega arith) (omega arith) in
+      rw (eq-eqb b 0 (omega arith), le-ltb 0 (run l) p, v)))
+      (λ z.
+      let v : eqb (digits (take (run l + 1) l)) 0 ≡ false =
+      ne-eqb (digits (take (run l + 1) l)) 0 (λ e. omega (arith, above-zero l z)) in
+      rw (ne-eqb b 0 (λ e. omega arith), both-false (ltb 0 (run l)), v))
+
+  pub step : reading (unsigned (suc k) top) (b ∷ l) ≡ ahead b (reading (unsigned k top) l)
+  unfolding reading digits
+  step =
+      let j : suc (run l) + 1 ≡ suc (run l + 1) = omega arith in
+      rw (out-step, large-step, many-step, run-high b l hi, j, last-step, ← (add-one (run l + 1)))
+      (sym (ahead-pick b 1 (runsOut (unsigned k top) l) _ ∙ ap (pick (runsOut (unsigned k top) l) (refused 1))
+      (ahead-pick b 2 (tooLarge (unsigned k top) l) _ ∙ ap (pick (tooLarge (unsigned k top) l) (refused 2))
+      (ahead-pick b 3 (tooMany (unsigned k top) l) _))))
+
+module _ (left : ℕ) (some : 0 < left) (s : List ℕ) (at : ℕ) where
+  pub rest-end : at ≤ length s → length s ≤ at → Reads (unsigned left 1) s at (refused 1)
+  unfolding run
+  rest-end h e =
+      let n : drop at s ≡ [] = drop-of-length-le s e in
+      keeps (read-from (unsigned left 1) s at h ∙ rw n (row-end (unsigned left 1) [] refl some))
+
+  module _ (there : at < length s) where
+    bytes-from : drop at s ≡ getD s at 0 ∷ drop (suc at) s
+    bytes-from = drop-cons s at 0 there
+
+    reading-from : read (unsigned left 1) s at ≡ reading (unsigned left 1) (getD s at 0 ∷ drop (suc at) s)
+    reading-from = read-from (unsigned left 1) s at (omega arith) ∙ ap (reading (unsigned left 1)) bytes-from
+
+    module _ (low : getD s at 0 < 128) where
+      pub rest-large : left < 2 → 1 < getD s at 0 → Reads (unsigned left 1) s at (refused 2)
+      rest-large l h =
+          let i : left - 1 ≡ 0 = omega arith in
+          keeps
+          (reading-from ∙ row-large (unsigned left 1) (getD s at 0 ∷ drop (suc at) s) (omega arith) (omega arith) (rw i (lt-leb (getD s at 0) 1 h)))
+
+      pub rest-last : (left < 2 → getD s at 0 ≤ 1) → Reads (unsigned left 1) s at (gives (getD s at 0, 1))
+      unfolding digits
+      rest-last f =
+          let z = run-low (getD s at 0) (drop (suc at) s) low in
+          keeps
+          (reading-from ∙ row-number (unsigned left 1) (getD s at 0 ∷ drop (suc at) s) (rw z (omega arith)) (rw z (omega arith))
+          (λ e. rw z (le-leb (getD s at 0) 1 (f (omega arith)))) (λ h. absurd (omega arith))
+          ∙ rw (z, mod-eq-of-lt low, add-zero))
+
+    module _ (high : 128 ≤ getD s at 0) where
+      pub rest-overrun : left < 2 → Reads (unsigned left 1) s at (refused 2)
+      rest-overrun l =
+          keeps
+          (overrun (unsigned left 1) (sound left 1 some (omega arith)) s at (omega arith)
+          (rw (bytes-from, run-high (getD s at 0) (drop (suc at) s) high) (omega arith)))
+
+      pub rest-ahead : 1 < left → {a : Answer (ℕ × ℕ)} → a ≡ read (unsigned (left - 1) 1) s (at + 1) → read (unsigned left 1) s at ≡ ahead (getD s at 0) a
+      rest-ahead h p =
+          let rest = drop (suc at) s in
+          let n : suc (left - 1) ≡ left = omega arith in
+          let q : reading (unsigned left 1) (getD s at 0 ∷ rest) ≡ ahead (getD s at 0) (reading (unsigned (left - 1) 1) rest) =
+          subst (λ (m : ℕ). reading (unsigned m 1) (getD s at 0 ∷ rest) ≡ ahead (getD s at 0) (reading (unsigned (left - 1) 1) rest)) n
+          (step (left - 1) 1 (omega arith) (getD s at 0) rest high) in
+          let d : read (unsigned (left - 1) 1) s (at + 1) ≡ reading (unsigned (left - 1) 1) rest =
+          read-from (unsigned (left - 1) 1) s (at + 1) (omega arith) ∙ ap (λ (i : ℕ). reading (unsigned (left - 1) 1) (drop i s)) (add-one at) in
+          reading-from ∙ q ∙ ap (ahead (getD s at 0)) (sym (p ∙ d))
+
+pub joins : (most : ℕ) (s : List ℕ) (at : ℕ) (a : Answer (ℕ × ℕ)) → 0 < most → most < 10 → Bytes s → a ≡ read (unsigned most 1) s at → Joins a
+joins most s at (gives x) some few bytes p =
+    let g = stands (unsigned most 1) s at (sound most 1 some (omega arith)) bytes (sym p) in
+    let u : x .0 < 128 ^ (most - 1) * (1 + 1) = read-begins most 1 some (omega arith) s at bytes (sym p) .of-width in
+    let c : x .1 ≤ most = count-within (unsigned most 1) (sound most 1 some (omega arith)) g in
+    let h : 128 ^ (most - 1) ≤ 128 ^ 8 = pow-up (most - 1) 8 (omega arith) in
+    (omega arith, omega arith)
+joins most s at (refused k) some few bytes p = tt
+
+-- a byte in front of an answer, by its case
+module _ (b : ℕ) {r : ReadU64} where
+  module _ {v : ℕ} {n : Count} (e : r ≡ Number v n) where
+    pub room : Joins (meansReadU64 r) → (v < 2 ^ 57) × (n .0 < 10)
+    room j = rw e at j
+
+    pub ahead-zero : v < 1 → ahead b (meansReadU64 r) ≡ refused 3
+    ahead-zero z = rw (e, eq-eqb v 0 (omega arith))
+
+    pub ahead-number : 1 ≤ v → ahead b (meansReadU64 r) ≡ gives (b % 128 + 128 * v, n .0 + 1)
+    ahead-number z = rw (e, ne-eqb v 0 (λ q. omega arith))
+
+  pub ahead-case : {q : ReadU64} → r ≡ q → ahead b (meansReadU64 r) ≡ ahead b (meansReadU64 q)
+  ahead-case e = rw e

@@ -1,2 +1,0 @@
-pub mod Inner
-pub mod Promise
