@@ -30,7 +30,7 @@ unfolding cut
 cut-high b l h = rw (le-ltb b 128 h)
 
 -- a group and what is behind it
-abbrev grouped : List ℕ → Cut → Cut
+abbrev pub grouped : List ℕ → Cut → Cut
 grouped g c = record { groups = g ∷ c .groups; tail = c .tail }
 
 pub cut-group : (l : List ℕ) → run l < length l → cut l ≡ grouped (take (run l + 1) l) (cut (drop (run l + 1) l))

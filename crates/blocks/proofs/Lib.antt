@@ -2,3 +2,10 @@ pub mod Runs
 pub mod Rows
 pub mod Says
 pub mod Cuts
+pub mod FromStart
+pub mod OneStep
+pub mod StepRows
+pub mod SetDownRows
+pub mod Places
+pub mod Local
+pub mod Readings

@@ -58,9 +58,9 @@ module _ (rule : Rule) (s : List ℕ) (p : ℕ) where
                   );
             }
 
-        pub group-says : p + run (drop p s) < length s → stepping rule s p ≡ saysBy rule (take (run (drop p s) + 1) (drop p s)) p
+        pub step-says : p + run (drop p s) < length s → stepping rule s p ≡ saysBy rule (take (run (drop p s) + 1) (drop p s)) p
         unfolding stepping
-        group-says h =
+        step-says h =
             let ne : run (drop p s) ≡ length (drop p s) → ⊥ = λ e. omega (arith, length-drop p s) in
             rw (
               le-ltb block-limit (length s) fits,
@@ -74,7 +74,7 @@ module _ (rule : Rule) (s : List ℕ) (p : ℕ) where
             → a ≡ readBy rule (take (run (drop p s) + 1) (drop p s)) → meansStep r ≡ says a n p → Steps rule s p r
         step-group {a = a} h c e q =
             let size = length-take-le (run (drop p s) + 1) (drop p s) (omega (arith, length-drop p s)) in
-            record { is = q ∙ ap (λ (i : ℕ). says a i p) (c ∙ sym size) ∙ ap (λ (b : Answer Val). says b (length (take (run (drop p s) + 1) (drop p s))) p) e ∙ sym (group-says h) }
+            record { is = q ∙ ap (λ (i : ℕ). says a i p) (c ∙ sym size) ∙ ap (λ (b : Answer Val). says b (length (take (run (drop p s) + 1) (drop p s))) p) e ∙ sym (step-says h) }
 
 module _ (s : List ℕ) (p : ℕ) where
   pub set-too-long : block-limit < length s → SetsDown s p (D.Refused Why.TooLong)

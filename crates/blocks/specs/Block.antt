@@ -14,11 +14,11 @@ use mathlib.Core.Bool.{Bool, not}
 use lib.Dec.{leb, ltb, eqb}
 use lib.IntN.{ℤ}
 use lib.ListN.{length, getD, take, drop}
-use Rattle.words.specs.Answer.{pick, Answer, gives, refused}
+use Rattle.words.specs.Answer.{pick, Answer, gives, refused, either}
 use Rattle.groups.specs.Group.{run}
 use Rattle.groups.specs.Width.{reading}
 use Rattle.uleb128.specs.Unsigned.{u64}
-use Rattle.sleb128.specs.Signed.{i64, either}
+use Rattle.sleb128.specs.Signed.{i64}
 use Rattle.blocks.specs.declared.Rule.{Rule}
 use Rattle.blocks.specs.declared.Rule.the-variants.{Unsigned, Signed}
 

@@ -1,85 +1,90 @@
--- Why damage stays local.
---
---   Local P reach     a predicate on a block, a place and bytes there: whether it holds of what ends `reach` bytes before a cut does not
---                     depend on what follows the cut, and of what begins behind a cut's first byte not on what precedes the cut
---   ends-before       what is local stands before a stretch as it stood, whatever the stretch is replaced by,
---   begins-behind     and behind it, moved only by the change in length
---   groups-local      groups are local with reach 0
+-- Demand 3: from the groups' locality, and from what a reader gives.
 use Prim.Native.Nat.{ℕ, _+_, _-_, _≤_, _<_}
-use mathlib.Core.Path.{_≡_, ap, sym, _∙_, subst}
-use mathlib.Core.List.{List, _++_, append-assoc}
-use mathlib.Core.Logic.{_↔_, inl, inr, ⊎-elim}
+use mathlib.Core.Path.{_≡_, refl, ap, sym, _∙_}
+use mathlib.Core.List.{List, [], _∷_, _++_, append-assoc}
+use mathlib.Core.Logic.{_↔_}
 use native.Mathlib.Omega.{arith}
-use lib.ListN.{length, getD, take, drop, length-append, length-drop, List·getD-append}
-use lib.Seq.{take-append-le, drop-append-le, drop-append-add, getD-append-add}
-use Rattle.groups.specs.Group.{Group}
-use Rattle.groups.proofs.Exact.{group-length}
-use Rattle.claims.specs.Blocks.{GroupAt}
+use lib.ListN.{length, drop, length-append}
+use lib.Dec.{leb}
+use Rattle.words.specs.Answer.{Answer}
+use Rattle.words.proofs.Cases.{by-test}
+use Rattle.groups.specs.Group.{run}
+use Rattle.blocks.specs.Block.{Val, saysBy}
+use Rattle.blocks.specs.Promise.{meansStep, Steps}
+use Rattle.blocks.specs.declared.Step.{Step}
+use Rattle.blocks.specs.GroupsAndTail.{cut, GroupAt}
+use Rattle.blocks.proofs.Cuts.{total, all-bytes, Some, some-each}
+use Rattle.blocks.specs.declared.Rule.{Rule}
+use Rattle.blocks.specs.Places.{placed, listed, ending, from, less}
+use Rattle.blocks.specs.Readings.{Block, readings, ReaderGives}
+use Rattle.claims.specs.OfDamage.{Front, Back, FrontRead, BackRead}
+use Rattle.blocks.proofs.Local.{ends-before, begins-behind, groups-local}
+use Rattle.blocks.proofs.Places.{ends-within, begins-from}
+use Rattle.blocks.proofs.Readings.{reads-all}
+use Rattle.blocks.proofs.OneStep.{same-step}
+use Rattle.blocks.proofs.StepRows.{says-group}
 
-pub record Local (P : List ℕ → ℕ → List ℕ → Type 0) (reach : ℕ) : Type 0 where
-  pub before : (a u w : List ℕ) (p : ℕ) (g : List ℕ) → p + length g + reach ≤ length a → P (a ++ u) p g → P (a ++ w) p g
-  pub after : (c d b : List ℕ) (q : ℕ) (g : List ℕ) → 0 < q → P (c ++ b) (length c + q) g → P (d ++ b) (length d + q) g
+-- a step says of a group what its own bytes say
+said : {rule : Rule} {s : List ℕ} {p : ℕ} {g : List ℕ} {r : Step} → Block s → GroupAt s p g → Steps rule s p r → meansStep r ≡ saysBy rule g p
+said {rule} {s} {p} {g} block k w = w .is ∙ sym (says-group rule s p g (block .short) k)
 
-module _ {P : List ℕ → ℕ → List ℕ → Type 0} {reach : ℕ} (w : Local P reach) (a x y b : List ℕ) where
-  pub ends-before : (p : ℕ) (g : List ℕ) → p + length g + reach ≤ length a → P (a ++ x ++ b) p g ↔ P (a ++ y ++ b) p g
-  ends-before p g h = (way x y, way y x)
-    where
-      way : (u v : List ℕ) → P (a ++ u ++ b) p g → P (a ++ v ++ b) p g
-      way u v k =
-          subst (λ (s : List ℕ). P s p g) (sym (append-assoc a v b))
-          (w .before a (u ++ b) (v ++ b) p g h (subst (λ (s : List ℕ). P s p g) (append-assoc a u b) k))
+pub front : Front
+front a x y b p g h =
+    let there : GroupAt (a ++ x ++ b) p g ↔ GroupAt (a ++ y ++ b) p g = ends-before groups-local a x y b p g (omega arith) in
+    (there, λ rule r r′ old new k w w′. same-step r r′ (said old k w ∙ sym (said new (there .0 k) w′)))
 
-  pub begins-behind : (p p′ : ℕ) (g : List ℕ) → length (a ++ x) < p → p′ + length x ≡ p + length y
-      → P (a ++ x ++ b) p g ↔ P (a ++ y ++ b) p′ g
-  begins-behind p p′ g h e =
-      let q = p - length (a ++ x) in
-      let i : p ≡ length (a ++ x) + q = omega arith in
-      let j : p′ ≡ length (a ++ y) + q = omega (arith, length-append a x, length-append a y) in
-      let some-byte : 0 < q = omega arith in (
-        λ k. subst (λ (n : ℕ). P (a ++ y ++ b) n g) (sym j)
-            (w .after (a ++ x) (a ++ y) b q g some-byte (subst (λ (n : ℕ). P (a ++ x ++ b) n g) i k)),
-        λ k. subst (λ (n : ℕ). P (a ++ x ++ b) n g) (sym i)
-            (w .after (a ++ y) (a ++ x) b q g some-byte (subst (λ (n : ℕ). P (a ++ y ++ b) n g) j k)),
-      )
+pub back : Back
+back a x y b p p′ g h e =
+    let there : GroupAt (a ++ x ++ b) p g ↔ GroupAt (a ++ y ++ b) p′ g = begins-behind groups-local a x y b p p′ g (omega arith) e in
+    (there, λ rule r r′ old new k w w′. (said old k w, said new (there .0 k) w′))
 
--- a group is some byte
-some : {g : List ℕ} → Group g → 0 < length g
-some r = omega (arith, group-length r)
+-- reading keeps places and counts
+readings-ending : (f : ℕ → Rule) (reach n : ℕ) (l : List (ℕ × ℕ × List ℕ)) → ending reach n (readings f l) ≡ readings f (ending reach n l)
+readings-ending f reach n [] = refl
+readings-ending f reach n (k ∷ l) = by-test (leb (k .0 + k .1 + reach) n) (λ e. rw (e, readings-ending f reach n l)) (λ e. rw e (readings-ending f reach n l))
 
-before : (a u w : List ℕ) (p : ℕ) (g : List ℕ) → p + length g + 0 ≤ length a → GroupAt (a ++ u) p g → GroupAt (a ++ w) p g
-before a u w p g h k = record {
-  start = record {
-    here = rw length-append (omega arith);
-    behind = ⊎-elim (λ (e : p ≡ 0). inl e) (λ (b : (0 < p) × (getD (a ++ u) (p - 1) 0 < 128)). inr (
-      b .0,
-      (let i : p - 1 < length a = omega (arith, b .0, some (k .is-group)) in
-          rw (List·getD-append a w 0 (p - 1) i) (rw (List·getD-append a u 0 (p - 1) i) at (b .1))),
-    )) (k .start .behind);
-  };
-  is-group = k .is-group;
-  there = moved w ∙ sym (moved u) ∙ k .there;
-}
+readings-from : (f : ℕ → Rule) (n : ℕ) (l : List (ℕ × ℕ × List ℕ)) → from n (readings f l) ≡ readings f (from n l)
+readings-from f n [] = refl
+readings-from f n (k ∷ l) = by-test (leb n (k .0)) (λ e. rw (e, readings-from f n l)) (λ e. rw e (readings-from f n l))
+
+-- rules that are chosen alike read alike
+alike : (f f′ : ℕ → Rule) (n p : ℕ) (gs : List (List ℕ)) → Some gs → p + total gs ≤ n → ((q : ℕ) → q < n → f q ≡ f′ q)
+    → readings f (placed p gs) ≡ readings f′ (placed p gs)
+alike f f′ n p [] k h e = refl
+alike f f′ n p (g ∷ gs) k h e = rw (e p (omega (arith, k .0)), alike f f′ n (p + length g) gs (k .1) (omega arith) e)
+
+moved : (f f′ : ℕ → Rule) (n n′ p : ℕ) (gs : List (List ℕ)) → ((q : ℕ) → f (n + q) ≡ f′ (n′ + q))
+    → less n (readings f (placed (n + p) gs)) ≡ less n′ (readings f′ (placed (n′ + p) gs))
+moved f f′ n n′ p [] e = refl
+moved f f′ n n′ p (g ∷ gs) e =
+    let i : n + p - n ≡ p = omega arith in
+    let i′ : n′ + p - n′ ≡ p = omega arith in
+    let j : n + p + length g ≡ n + (p + length g) = omega arith in
+    let j′ : n′ + p + length g ≡ n′ + (p + length g) = omega arith in
+    rw (i, i′, j, j′, e p, moved f f′ n n′ (p + length g) gs e)
+
+pub front-read : FrontRead
+front-read a x y b f f′ l l′ old new e k k′ = part f x l old k ∙ alike f f′ (length a) 0 (cut a .groups) (some-each a) (omega (arith, all-bytes a)) e ∙ sym (part f′ y l′ new k′)
   where
-    moved : (z : List ℕ) → take (length g) (drop p (a ++ z)) ≡ take (length g) (drop p a)
-    moved z =
-        let l : length g ≤ length (drop p a) = rw length-drop (omega arith) in
-        ap (take (length g)) (drop-append-le p a z (omega arith)) ∙ take-append-le (length g) (drop p a) z l
+    part : (f : ℕ → Rule) (z : List ℕ) (l : List (ℕ × ℕ × Answer Val)) → Block (a ++ z ++ b) → ReaderGives f (a ++ z ++ b) 0 l → ending 0 (length a) l ≡ readings f (listed a)
+    part f z l k r =
+        rw (reads-all f (a ++ z ++ b) k l r)
+        (readings-ending f 0 (length a) (listed (a ++ z ++ b))
+        ∙ ap (λ (s : List ℕ). readings f (ending 0 (length a) (listed s))) (append-assoc a z b) ∙ ap (readings f) (ends-within a (z ++ b)))
 
-after : (c d b : List ℕ) (q : ℕ) (g : List ℕ) → 0 < q → GroupAt (c ++ b) (length c + q) g → GroupAt (d ++ b) (length d + q) g
-after c d b q g h k = record {
-  start = record {
-    here = rw length-append (omega (arith, rw length-append at (k .start .here)));
-    behind = inr (omega arith, rw (at-byte d) (rw (at-byte c) at low));
-  };
-  is-group = k .is-group;
-  there = ap (take (length g)) (drop-append-add d b q ∙ sym (drop-append-add c b q)) ∙ k .there;
-}
+pub back-read : BackRead
+back-read a x y b f f′ l l′ old new e k k′ =
+    let n = length (a ++ x) + run b + 1 in
+    let n′ = length (a ++ y) + run b + 1 in
+    let z : n + 0 ≡ n = omega arith in
+    let z′ : n′ + 0 ≡ n′ = omega arith in
+    ap (less n) (part f (a ++ x) l old k)
+    ∙ rw (z, z′) at (moved f f′ n n′ 0 (cut (drop (run b + 1) b) .groups)
+    (λ q. e (n + q) (n′ + q) (omega arith) (omega (arith, length-append a x, length-append a y))))
+    ∙ sym (ap (less n′) (part f′ (a ++ y) l′ new k′))
   where
-    at-byte : (z : List ℕ) → getD (z ++ b) (length z + q - 1) 0 ≡ getD b (q - 1) 0
-    at-byte z = let i : length z + q - 1 ≡ length z + (q - 1) = omega arith in rw i (getD-append-add z b (q - 1) 0)
-
-    low : getD (c ++ b) (length c + q - 1) 0 < 128
-    low = ⊎-elim (λ (e : length c + q ≡ 0). absurd (omega arith)) (λ (b : (0 < length c + q) × (getD (c ++ b) (length c + q - 1) 0 < 128)). b .1) (k .start .behind)
-
-pub groups-local : Local GroupAt 0
-groups-local = record { before = before; after = after }
+    part : (f : ℕ → Rule) (c : List ℕ) (l : List (ℕ × ℕ × Answer Val)) → Block (c ++ b) → ReaderGives f (c ++ b) 0 l
+        → from (length c + run b + 1) l ≡ readings f (placed (length c + run b + 1) (cut (drop (run b + 1) b) .groups))
+    part f c l k r =
+        rw (reads-all f (c ++ b) k l r)
+        (readings-from f (length c + run b + 1) (listed (c ++ b)) ∙ ap (readings f) (begins-from c b (length c + run b + 1) (omega arith) (omega arith)))

@@ -17,7 +17,7 @@ use Rattle.words.specs.declared.Count.{Count}
 use Rattle.words.specs.declared.Written.the-variants as W
 use Rattle.groups.specs.Form.{spell, spellings}
 use Rattle.groups.specs.Group.{Bytes, Group, one, run, digits}
-use Rattle.groups.specs.Laying.{writing, laid}
+use Rattle.words.specs.Laying.{writing, laid}
 use Rattle.groups.specs.Width.{runsOut, tooLarge, tooMany, reading, read}
 use Rattle.uleb128.specs.Unsigned as unsigned
 use Rattle.sleb128.specs.Signed as signed
@@ -29,10 +29,10 @@ use Rattle.lists.specs.Lists.{forms}
 use Rattle.lists.specs.Promise.{WritesList}
 use Rattle.claims.specs.Readers.{Reader, loop64, recursive64, unsigned32, signed64, number, Promised, width}
 use Rattle.claims.specs.Writers.{Laying}
-use Rattle.claims.specs.Blocks.{GroupAt}
-use Rattle.claims.specs.Readings.{Block}
+use Rattle.blocks.specs.GroupsAndTail.{GroupAt}
+use Rattle.blocks.specs.Readings.{Block}
 use Rattle.claims.specs.OfNumbers.{zero-of}
-use Rattle.claims.proofs.Laws.{number-says}
+use Rattle.claims.proofs.Readers.{number-says}
 
 abbrev count : ℕ → Count
 count n = record { 0 = n }

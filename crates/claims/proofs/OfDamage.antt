@@ -1,6 +1,6 @@
 -- What is claimed of damage, proved.
-use Rattle.claims.proofs.Damaged.{front, back, front-read, back-read}
-use Rattle.claims.proofs.Anywhere.{front-lost}
+use Rattle.claims.proofs.Damage.{front, back, front-read, back-read}
+use Rattle.claims.proofs.ReaderSetDown.{front-lost}
 use Rattle.claims.specs.OfDamage.{OfDamage}
 
 pub damage : OfDamage

@@ -4,8 +4,8 @@ use mathlib.Core.Path.{refl, sym, _∙_}
 use lib.ListN.{length, take}
 use lib.Seq.{sets}
 use Rattle.listing.specs.Promise.{meansListing, asked, fronted}
-use Rattle.claims.proofs.Same.{same-next}
-use Rattle.claims.proofs.Listings.{found-line, lists, enough, document}
+use Rattle.listing.proofs.OneNext.{same-next}
+use Rattle.claims.proofs.Text.{found-line, lists, enough, document}
 use Rattle.texts.proofs.Decimals.{decimal-small, decimal-large}
 use Rattle.claims.specs.OfListing.{OfListing}
 

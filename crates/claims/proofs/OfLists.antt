@@ -10,11 +10,12 @@ use Rattle.words.specs.declared.Written.the-variants as W
 use Rattle.words.proofs.Cases.{by-order}
 use Rattle.lists.specs.Lists.{list-limit, forms}
 use Rattle.lists.specs.Promise.{WritesList}
-use Rattle.claims.proofs.Same.{same-written, same-list}
-use Rattle.claims.proofs.Strict.{row-reads, row-found as strict-found, strict-rows}
-use Rattle.claims.proofs.Trips.{writes-list}
-use Rattle.claims.proofs.Lists.{list-back}
-use Rattle.claims.proofs.Answered.{some-lays}
+use Rattle.lists.proofs.OneList.{same-list}
+use Rattle.words.proofs.OneMeaning.{same-written}
+use Rattle.claims.proofs.StrictRows.{row-reads, row-found as strict-found, strict-rows}
+use Rattle.claims.proofs.RoundTrips.{writes-list}
+use Rattle.claims.proofs.ListBack.{list-back}
+use Rattle.words.proofs.Laying.{some-lays}
 use Rattle.claims.specs.Writers.{Both}
 use Rattle.claims.specs.OfLists.{OfLists}
 

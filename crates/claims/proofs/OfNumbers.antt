@@ -4,6 +4,7 @@ use mathlib.Core.Path.{_≡_, refl, ap, sym, _∙_}
 use mathlib.Core.List.{List, [], _∷_}
 use lib.ListN.{length}
 use Rattle.words.specs.Refusal.{numberOf}
+use Rattle.words.specs.Laying.{fits}
 use Rattle.words.specs.declared.Count.{Count}
 use Rattle.words.specs.declared.Written.{Written}
 use Rattle.groups.specs.Form.{groups, spell, spellings}
@@ -12,9 +13,9 @@ use Rattle.uleb128.specs.Unsigned as unsigned
 use Rattle.sleb128.specs.Signed as signed
 use Rattle.claims.specs.Readers.{Reader, loop64, recursive64, unsigned32, signed64, Value, Reply, number, refuse, Promised, width, form}
 use Rattle.claims.specs.Writers.{Laying, Length, Both}
-use Rattle.claims.proofs.Laws.{number-says, refusal-says, one-reply, accepts, refuses, excludes, exhausts, within, within-mag}
-use Rattle.claims.proofs.Trips.{lays as lays-form, writes, write-read, read-write, more-behind, some-byte}
-use Rattle.claims.proofs.Told.{read-told}
+use Rattle.claims.proofs.Readers.{number-says, refusal-says, one-reply, accepts, refuses, excludes, exhausts, within, within-mag}
+use Rattle.claims.proofs.RoundTrips.{lays as lays-form, writes, write-read, read-write, more-behind, some-byte}
+use Rattle.groups.proofs.Rows.{read-cases}
 use native.Mathlib.Nat.{lt-trans}
 use native.Mathlib.Omega.{arith}
 use lib.IntN.{pos}
@@ -24,9 +25,10 @@ use Rattle.groups.proofs.Spelling.{some-bytes}
 use Rattle.uleb128.proofs.Forms.{form-short, form-some}
 use Rattle.sleb128.proofs.Forms.{form-spelled}
 use Rattle.claims.specs.Try.{Starred}
-use Rattle.claims.proofs.Spelled.{two-sentences, twos-complement, signed-form, one-too-many, signed-most}
-use Rattle.claims.proofs.Sources.{parse-same, serialize-same}
-use Rattle.claims.proofs.Answered.{some-lays, same-lays}
+use Rattle.claims.proofs.Forms.{two-sentences, twos-complement, signed-form, one-too-many, signed-most}
+use Rattle.claims.proofs.Source.{parse-same, serialize-same}
+use Rattle.words.proofs.Laying.{some-lays}
+use Rattle.words.proofs.OneMeaning.{same-lays}
 use Rattle.claims.specs.OfNumbers.{Most, zero-of, OfNumbers}
 
 some-written : (k : Reader) (v : Value k) (s : List ℕ) (at : ℕ) → (x : Written × List ℕ) × Both (Laying k v s at) x
@@ -44,7 +46,7 @@ some-length signed64 v = (record { 0 = length (signed.form v) }, record { is = r
 -- what a reader answers
 some-reply : (k : Reader) (s : List ℕ) (at : ℕ) → (r : Reply k) × Promised k s at r
 some-reply k s at =
-    read-told (width k) s at
+    read-cases (width k) s at
     (λ v n e. (number k v (record { 0 = n }), number-says k s at v (record { 0 = n }) .1 e))
     (λ why e. (refuse k why, refusal-says k s at why .1 e))
 
@@ -104,6 +106,7 @@ numbers = record {
   starred = starred;
   met = record {
     number = λ why. (numberOf why, record { is = refl });
+    room = λ size at n. (fits size at n, record { is = refl });
     walk = λ s at. (walked s at, record { is = refl });
     store = λ m below n s at. some-lays (groups below n m) s at;
     reply = some-reply;
@@ -112,6 +115,7 @@ numbers = record {
   };
   one = record {
     number = λ why n m p q. p .is ∙ sym (q .is);
+    room = λ size at n r r′ p q. p .is ∙ sym (q .is);
     walk = λ s at r r′ p q. p .is ∙ sym (q .is);
     store = λ m below n s at r r′ out out′ p q. same-lays p q;
     reply = λ k. one-reply k;

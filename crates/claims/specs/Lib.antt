@@ -3,12 +3,6 @@ pub mod Writers
 pub mod Table
 pub mod Source
 pub mod Try
-pub mod Listed
-pub mod Blocks
-pub mod Readings
-pub mod Damage
-pub mod Strict
-pub mod Listing
 pub mod OfNumbers
 pub mod OfBlocks
 pub mod OfDamage

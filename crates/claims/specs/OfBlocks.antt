@@ -1,26 +1,45 @@
 -- What is claimed of blocks: each answer of a step and of a set-down exactly when, and what a reader gives.
 --
+--   ReaderFrom              from a start a reader gives exactly the groups from there on
+--   ReaderSetDown           from any place, set down, exactly the groups that begin there or later
 --   ReadGroup               when a group is a number
 --   BlocksMet, BlocksOne    an answer meets each promise, and no second
 --   OfBlocks                all of it
 use Prim.Native.Nat.{ℕ}
 use mathlib.Core.Path.{_≡_}
-use mathlib.Core.List.{List}
+use mathlib.Core.List.{List, []}
 use mathlib.Core.Logic.{_↔_}
 use lib.ListN.{length}
-use Rattle.words.specs.Answer.{gives, refused}
+use Rattle.words.specs.Answer.{gives, refused, Answer}
 use Rattle.words.specs.Refusal.{numberOf}
 use Rattle.words.specs.declared.Refusal.{Refusal}
 use Rattle.groups.specs.Group.{Bytes, Group}
 use Rattle.groups.specs.Width.{reading}
 use Rattle.claims.specs.Readers.{Reader, Value, number, width, form, OfWidth}
 use Rattle.blocks.specs.Promise.{Steps, SetsDown}
+use Rattle.blocks.specs.Readings.{Block, readings, ReaderGives}
 use Rattle.blocks.specs.declared.Rule.{Rule}
 use Rattle.blocks.specs.declared.SetDown.{SetDown}
 use Rattle.blocks.specs.declared.Step.{Step}
-use Rattle.claims.specs.Blocks.{StepRow, SetDownRow}
-use Rattle.claims.specs.Readings.{ReaderFrom, ReaderSetDown}
+use Rattle.blocks.specs.Rows.{StepRow, SetDownRow}
 use Rattle.claims.specs.Table.{GapRow}
+use Rattle.words.specs.declared.Refusal.the-variants.{NoStart}
+use Rattle.blocks.specs.Block.{Val}
+use Rattle.blocks.specs.declared.Cursor.{Cursor}
+use Rattle.blocks.specs.declared.SetDown.the-variants as D
+use Rattle.blocks.specs.GroupsAndTail.{Start}
+use Rattle.blocks.specs.Places.{listed, from}
+
+-- From a start, a reader gives exactly the groups that begin there or later, in order, each once; every reading ends.
+abbrev pub ReaderFrom : Type 0
+ReaderFrom = (f : ℕ → Rule) (s : List ℕ) (p : ℕ) (l : List (ℕ × ℕ × Answer Val)) → Block s → Start s p
+    → ReaderGives f s p l ↔ (l ≡ readings f (from p (listed s)))
+
+-- Set down at any place, a reader gives exactly the groups that begin there or later; where there is no start, no group begins there or later.
+abbrev pub ReaderSetDown : Type 0
+ReaderSetDown = (f : ℕ → Rule) (s : List ℕ) (p : ℕ) → Bytes s →
+    ((c : Cursor) (l : List (ℕ × ℕ × Answer Val)) → SetsDown s p (D.At c) → ReaderGives f s (c .place .0) l ↔ (l ≡ readings f (from p (listed s))))
+    × (SetsDown s p (D.Refused NoStart) → from p (listed s) ≡ [])
 
 -- A group is read as a number exactly when it is its shortest form, and else is a gap, by row 2 or 3.
 pub record ReadGroup (k : Reader) (g : List ℕ) : Type 0 where

@@ -1,8 +1,63 @@
 -- What is claimed of damage: demand 3.
 --
+--   Front, Back           where groups stand, and what a step answers there
+--   FrontRead, BackRead   what a reader gives of the whole block: the readings in each of the two parts are the same list
+--   FrontLost             what a reader gives of a copy whose front is lost
 --   OfDamage   all of it
-use Rattle.claims.specs.Readings.{FrontLost}
-use Rattle.claims.specs.Damage.{Front, Back, FrontRead, BackRead}
+use Prim.Native.Nat.{ℕ, _+_, _≤_, _<_}
+use mathlib.Core.Path.{_≡_}
+use mathlib.Core.List.{List, _++_}
+use mathlib.Core.Logic.{_↔_}
+use lib.ListN.{length, drop}
+use Rattle.words.specs.Answer.{Answer}
+use Rattle.groups.specs.Group.{run, Bytes}
+use Rattle.blocks.specs.Block.{Val, saysBy}
+use Rattle.blocks.specs.Promise.{meansStep, Steps, SetsDown}
+use Rattle.blocks.specs.declared.Rule.{Rule}
+use Rattle.blocks.specs.declared.Step.{Step}
+use Rattle.blocks.specs.GroupsAndTail.{GroupAt}
+use Rattle.blocks.specs.Places.{ending, from, less, listed}
+use Rattle.blocks.specs.Readings.{Block, readings, ReaderGives}
+use Rattle.blocks.specs.declared.Cursor.{Cursor}
+use Rattle.blocks.specs.declared.SetDown.the-variants as D
+
+-- Every group that ends before the stretch stands and reads as before, by any rule, and no other group appears there.
+abbrev pub Front : Type 0
+Front = (a x y b : List ℕ) (p : ℕ) (g : List ℕ) → p + length g ≤ length a →
+    (GroupAt (a ++ x ++ b) p g ↔ GroupAt (a ++ y ++ b) p g)
+    × ((rule : Rule) (r r′ : Step) → Block (a ++ x ++ b) → Block (a ++ y ++ b) → GroupAt (a ++ x ++ b) p g
+    → Steps rule (a ++ x ++ b) p r → Steps rule (a ++ y ++ b) p r′ → r ≡ r′)
+
+-- Every group that begins after the first byte below 128 past the stretch stands and reads as before, by any rule, its place moved only by
+-- the change in length, and no other group appears there.
+abbrev pub Back : Type 0
+Back = (a x y b : List ℕ) (p p′ : ℕ) (g : List ℕ) → length (a ++ x) + run b < p → p′ + length x ≡ p + length y →
+    (GroupAt (a ++ x ++ b) p g ↔ GroupAt (a ++ y ++ b) p′ g)
+    × ((rule : Rule) (r r′ : Step) → Block (a ++ x ++ b) → Block (a ++ y ++ b) → GroupAt (a ++ x ++ b) p g
+    → Steps rule (a ++ x ++ b) p r → Steps rule (a ++ y ++ b) p′ r′ → (meansStep r ≡ saysBy rule g p) × (meansStep r′ ≡ saysBy rule g p′))
+
+-- All that a reader gives of the old block and of the new one: what ends before the stretch is the same list, if the rules chosen there are
+-- the same.
+abbrev pub FrontRead : Type 0
+FrontRead = (a x y b : List ℕ) (f f′ : ℕ → Rule) (l l′ : List (ℕ × ℕ × Answer Val))
+    → Block (a ++ x ++ b) → Block (a ++ y ++ b) → ((p : ℕ) → p < length a → f p ≡ f′ p)
+    → ReaderGives f (a ++ x ++ b) 0 l → ReaderGives f′ (a ++ y ++ b) 0 l′ → ending 0 (length a) l ≡ ending 0 (length a) l′
+
+-- And what begins after the first byte below 128 past the stretch is the same list, with places counted from there.
+abbrev pub BackRead : Type 0
+BackRead = (a x y b : List ℕ) (f f′ : ℕ → Rule) (l l′ : List (ℕ × ℕ × Answer Val))
+    → Block (a ++ x ++ b) → Block (a ++ y ++ b)
+    → ((p p′ : ℕ) → length (a ++ x) + run b < p → p′ + length x ≡ p + length y → f p ≡ f′ p′)
+    → ReaderGives f (a ++ x ++ b) 0 l → ReaderGives f′ (a ++ y ++ b) 0 l′
+    → less (length (a ++ x) + run b + 1) (from (length (a ++ x) + run b + 1) l)
+    ≡ less (length (a ++ y) + run b + 1) (from (length (a ++ y) + run b + 1) l′)
+
+-- A copy whose front is lost: set down at its place 1, a reader gives exactly the original's groups that begin at k and that start or later,
+-- their places less k.
+abbrev pub FrontLost : Type 0
+FrontLost = (f : ℕ → Rule) (original : List ℕ) (k : ℕ) (c : Cursor) (l : List (ℕ × ℕ × Answer Val)) → Bytes original
+    → SetsDown (drop k original) 1 (D.At c)
+    → ReaderGives f (drop k original) (c .place .0) l ↔ (l ≡ readings f (less k (from (k + c .place .0) (listed original))))
 
 pub record OfDamage : Type 0 where
   pub damage-front : Front

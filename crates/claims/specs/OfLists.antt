@@ -1,28 +1,66 @@
 -- What is claimed of lists of numbers.
 --
+--   Of64Bits ns          every number of the list has 64 bits
+--   IsForms s ns      the block s is the forms of the numbers ns, one after another: every group is a number, and there is no tail
+--   Fault rest        at the front of the rest: 2 or 3, a group that is none by that row; 1, a tail of any length
+--   FirstFault why s  behind the forms of some numbers, the first fault of the block s
+--   StrictRefused     the row of each refusal: 7, then the first fault by place (1, 2 or 3, by `Fault`), then 5; no other refusal has a row
+--   StrictRow         the row of each answer, with the slice afterwards
 --   WritesLists            how a list is written
 --   ListBack               a list that was written, read back
 --   ListsMet, ListsOne     an answer meets each promise, and no second
 --   OfLists                all of it
-use Prim.Native.Nat.{ℕ, _≤_, _<_}
+use Prim.Native.Nat.{ℕ, _≤_, _<_, _^_}
 use mathlib.Core.Path.{_≡_}
-use mathlib.Core.List.{List, _++_}
+use mathlib.Core.List.{List, _++_, [], _∷_}
 use mathlib.Core.Logic.{_↔_}
 use lib.ListN.{length, take, drop}
 use Rattle.words.specs.declared.Count.{Count}
-use Rattle.words.specs.declared.Refusal.the-variants.{TooLong}
+use Rattle.words.specs.declared.Refusal.the-variants.{TooLong, End, NoRoom}
 use Rattle.words.specs.declared.Written.{Written}
 use Rattle.words.specs.declared.Written.the-variants as W
-use Rattle.groups.specs.Group.{Bytes}
+use Rattle.groups.specs.Group.{Bytes, High, Group}
 use Rattle.blocks.specs.Block.{block-limit}
 use Rattle.lists.specs.Lists.{list-limit, forms}
-use Rattle.lists.specs.Promise.{WritesList}
-use Rattle.lists.specs.Promise.{ReadsStrict}
+use Rattle.lists.specs.Promise.{WritesList, ReadsStrict}
 use Rattle.lists.specs.declared.ReadList.{ReadList}
 use Rattle.lists.specs.declared.ReadList.the-variants as L
-use Rattle.claims.specs.Strict.{Words, StrictRow}
 use Rattle.claims.specs.Writers.{Both}
 use Rattle.claims.specs.OfNumbers.{LaysExactly}
+use Rattle.words.specs.declared.Refusal.{Refusal}
+use Rattle.uleb128.specs.Unsigned.{u64}
+use Rattle.lists.specs.declared.ReadList.the-variants as L
+use Rattle.claims.specs.Table.{GapRow}
+
+abbrev pub Of64Bits : List ℕ → Type 0
+Of64Bits [] = Unit {0}
+Of64Bits (v ∷ ns) = (v < 2 ^ 64) × Of64Bits ns
+
+abbrev pub IsForms : List ℕ → List ℕ → Type 0
+IsForms s ns = (s ≡ forms ns) × Of64Bits ns
+
+-- at the front of what is left: a group that is no number, or nothing but a tail
+pub data Fault (rest : List ℕ) : Refusal → Type 0 where
+  gap : {why : Refusal} (g more : List ℕ) → rest ≡ g ++ more → Group g → GapRow u64 g why → Fault rest why
+  tail : 0 < length rest → High rest → Fault rest End
+
+pub record FirstFault (why : Refusal) (s : List ℕ) : Type 0 where
+  pub ns : List ℕ
+  pub rest : List ℕ
+  pub words : Of64Bits ns
+  pub behind : s ≡ forms ns ++ rest
+  pub fault : Fault rest why
+
+pub data StrictRefused (s : List ℕ) (room : ℕ) : Refusal → Type 0 where
+  too-long : block-limit < length s → StrictRefused s room TooLong
+  faulty : {why : Refusal} → length s ≤ block-limit → FirstFault why s → StrictRefused s room why
+  no-room : length s ≤ block-limit → (ns : List ℕ) → IsForms s ns → room < length ns → StrictRefused s room NoRoom
+
+-- the numbers fill the front of the slice, and the rest is kept; or all is
+abbrev pub StrictRow : List ℕ → List ℕ → ReadList → List ℕ → Type 0
+StrictRow s old (L.Filled n) out =
+    (length s ≤ block-limit) × (ns : List ℕ) × IsForms s ns × (length ns ≤ length old) × (n .0 ≡ length ns) × (out ≡ ns ++ drop (length ns) old)
+StrictRow s old (L.Refused why) out = StrictRefused s (length old) why × (out ≡ old)
 
 -- A list of more numbers than the limit is refused by 7; any other is written as one number is, its forms one after another.
 abbrev pub WritesLists : Type 0
@@ -33,7 +71,7 @@ WritesLists = (ns before : List ℕ) (at : ℕ) (r : Written) (after : List ℕ)
 -- Strict reading of what list writing wrote gives the list back, if that is within the block limit and the answer slice holds it.
 abbrev pub ListBack : Type 0
 ListBack = (ns before : List ℕ) (at : ℕ) (n : Count) (after old : List ℕ) (r : ReadList) (out : List ℕ)
-    → Words ns → WritesList ns before at (W.Bytes n) after → n .0 ≤ block-limit → length ns ≤ length old
+    → Of64Bits ns → WritesList ns before at (W.Bytes n) after → n .0 ≤ block-limit → length ns ≤ length old
     → ReadsStrict (take (n .0) (drop at after)) old r out
     → (r ≡ L.Filled (record { 0 = length ns })) × (out ≡ ns ++ drop (length ns) old)
 

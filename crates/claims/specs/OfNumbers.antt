@@ -18,7 +18,7 @@ use lib.IntN.{ℤ, pos, negℤ, _+ℤ_}
 use lib.Signed.{_≤ℤ_, _<ℤ_}
 use lib.ListN.{length, take, drop}
 use Rattle.words.specs.Answer.{gives, refused}
-use Rattle.words.specs.Promise.{Numbers}
+use Rattle.words.specs.Promise.{Numbered, HasRoom}
 use Rattle.words.specs.declared.Count.{Count}
 use Rattle.words.specs.declared.Refusal.{Refusal}
 use Rattle.words.specs.declared.Refusal.the-variants.{NoRoom}
@@ -26,15 +26,12 @@ use Rattle.words.specs.declared.Written.{Written}
 use Rattle.words.specs.declared.Written.the-variants as W
 use Rattle.groups.specs.Begins.{Begins}
 use Rattle.groups.specs.Group.{Bytes, Group, digits}
-use Rattle.groups.specs.Promise.{Walks}
-use Rattle.groups.specs.Promise.{Stores}
+use Rattle.groups.specs.Promise.{Walks, Stores}
 use Rattle.groups.specs.Width.{read, tooMany}
 use Rattle.groups.specs.declared.Walked.{Walked}
 use Rattle.uleb128.specs.Unsigned as unsigned
-use Rattle.uleb128.specs.Promise.{ReadsU64}
-use Rattle.uleb128.specs.Promise.{WritesU64}
-use Rattle.uleb128_rec.specs.Promise.{ReadsU64Rec}
-use Rattle.uleb128_rec.specs.Promise.{WritesU64Rec}
+use Rattle.uleb128.specs.Promise.{ReadsU64, WritesU64}
+use Rattle.uleb128_rec.specs.Promise.{ReadsU64Rec, WritesU64Rec}
 use Rattle.uleb128.specs.declared.ReadU64.{ReadU64}
 use Rattle.sleb128.specs.Signed as signed
 use Rattle.claims.specs.Readers.{Reader, loop64, recursive64, unsigned32, signed64, Value, Reply, number, refuse, Promised, width, form, OfWidth}
@@ -148,7 +145,8 @@ SpecParse = (s : List ℕ) → Bytes s →
 
 -- Each promise is met by some answer, with some final content of what was lent, on every input: no claim over promises is empty.
 pub record NumbersMet : Type 0 where
-  pub number : (why : Refusal) → (n : ℕ) × Numbers why n
+  pub number : (why : Refusal) → (n : ℕ) × Numbered why n
+  pub room : (size at n : ℕ) → (r : Bool) × HasRoom size at n r
   pub walk : (s : List ℕ) (at : ℕ) → (r : Walked) × Walks s at r
   pub store : (m : ℕ) (below : Bool) (n : ℕ) (s : List ℕ) (at : ℕ) → (x : Written × List ℕ) × Both (Stores m below n s at) x
   pub reply : (k : Reader) (s : List ℕ) (at : ℕ) → (r : Reply k) × Promised k s at r
@@ -157,7 +155,8 @@ pub record NumbersMet : Type 0 where
 
 -- And by no second: no second answer, and no second final content of what was lent.
 pub record NumbersOne : Type 0 where
-  pub number : (why : Refusal) (n m : ℕ) → Numbers why n → Numbers why m → n ≡ m
+  pub number : (why : Refusal) (n m : ℕ) → Numbered why n → Numbered why m → n ≡ m
+  pub room : (size at n : ℕ) (r r′ : Bool) → HasRoom size at n r → HasRoom size at n r′ → r ≡ r′
   pub walk : (s : List ℕ) (at : ℕ) (r r′ : Walked) → Walks s at r → Walks s at r′ → r ≡ r′
   pub store : (m : ℕ) (below : Bool) (n : ℕ) (s : List ℕ) (at : ℕ) (r r′ : Written) (out out′ : List ℕ)
       → Stores m below n s at r out → Stores m below n s at r′ out′ → (r ≡ r′) × (out ≡ out′)

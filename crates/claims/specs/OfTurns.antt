@@ -1,13 +1,21 @@
 -- What is claimed of turns.
 --
+--   TurnRow              the row of each meaning of a turn
 --   TurnsMet, TurnsOne   an answer meets the promise, and no second
 --   OfTurns              all of it
 use mathlib.Core.Path.{_≡_}
 use mathlib.Core.Logic.{_↔_}
-use lib.IntN.{ℤ}
+use lib.IntN.{ℤ, pos}
 use Rattle.turns.specs.Turns.{Means}
 use Rattle.turns.specs.declared.Turn.{Turn}
-use Rattle.claims.specs.Blocks.{TurnRow}
+use lib.Signed.{_<ℤ_}
+use Rattle.turns.specs.declared.Turn.the-variants.{Tighten, Loosen, Hold}
+
+-- What a turn means: above zero is Tighten, below zero is Loosen, zero is Hold.
+abbrev pub TurnRow : ℤ → Turn → Type 0
+TurnRow v Tighten = pos 0 <ℤ v
+TurnRow v Loosen = v <ℤ pos 0
+TurnRow v Hold = v ≡ pos 0
 
 -- Each promise is met by some answer, with some final content of what was lent, on every input: no claim over promises is empty.
 pub record TurnsMet : Type 0 where

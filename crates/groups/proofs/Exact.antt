@@ -20,8 +20,7 @@ use Rattle.groups.specs.Width.{Width, tooLarge, tooMany}
 use Rattle.groups.proofs.Run.{run-low, run-high, in-run, at-run, pow-up}
 use Rattle.groups.proofs.Rows.{too-large, not-large, first-not-many}
 use Rattle.groups.proofs.Walks.{Sound}
-use Rattle.groups.proofs.Layings.{say-below}
-use Rattle.groups.proofs.Spelling.{said, say-say, say-high, Spelled, last, byte, spelled, unique, times-more, short, last-bounds, last-small, spelled-group}
+use Rattle.groups.proofs.Spelling.{say-below, said, say-say, say-high, Spelled, last, byte, spelled, unique, times-more, short, last-bounds, last-small, spelled-group}
 
 pub group-length : {g : List ℕ} → Group g → length g ≡ suc (run g)
 group-length (one {b} p) = rw (run-low b [] p)

@@ -2,7 +2,6 @@ pub mod Run
 pub mod Rows
 pub mod Walking
 pub mod Walks
-pub mod Layings
 pub mod Spelling
 pub mod Exact
 pub mod Standing

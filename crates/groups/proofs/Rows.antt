@@ -8,7 +8,10 @@ use borrow.Author.Tests.{lt-ltb, le-ltb, le-leb, lt-leb, eq-eqb, ne-eqb, leb-tru
 use lib.Dec.{leb, ltb, eqb}
 use lib.ListN.{length, getD, take, drop}
 use Rattle.words.specs.Answer.{Answer, gives, refused}
-use Rattle.words.proofs.Cases.{by-order, both-false, both-true}
+use Rattle.words.specs.Refusal.{numberOf}
+use Rattle.words.specs.declared.Refusal.{Refusal}
+use Rattle.words.specs.declared.Refusal.the-variants.{End, Overflow, NotShortest, Place}
+use Rattle.words.proofs.Cases.{by-order, by-test, both-false, both-true}
 use Rattle.groups.specs.Group.{run}
 use Rattle.groups.proofs.Run.{run-within}
 use Rattle.groups.specs.Width.{Width, runsOut, tooLarge, tooMany, reading, read, Due}
@@ -105,6 +108,20 @@ module _ {A : Type 0} (w : Width A) where
   pub read-from : (s : List ℕ) (at : ℕ) → at ≤ length s → read w s at ≡ reading w (drop at s)
   unfolding read
   read-from s at h = rw (le-ltb (length s) at h)
+
+-- what a reading can say: a number, or a refusal that has a name
+module _ {A X : Type 0} (w : Width A) where
+  pub reading-cases : (g : List ℕ) → ((v : A) (n : ℕ) → reading w g ≡ gives (v, n) → X) → ((why : Refusal) → reading w g ≡ refused (numberOf why) → X) → X
+  unfolding reading
+  reading-cases g value fault =
+      by-test (runsOut w g) (λ o. fault End (rw o))
+      (λ o. by-test (tooLarge w g) (λ l. fault Overflow (rw (o, l)))
+      (λ l. by-test (tooMany w g) (λ m. fault NotShortest (rw (o, l, m))) (λ m. value (w .value (take (run g + 1) g)) (run g + 1) (rw (o, l, m)))))
+
+  pub read-cases : (s : List ℕ) (at : ℕ) → ((v : A) (n : ℕ) → read w s at ≡ gives (v, n) → X) → ((why : Refusal) → read w s at ≡ refused (numberOf why) → X) → X
+  read-cases s at value fault =
+      by-order (length s) at (λ h. fault Place (read-past w s at h))
+      (λ h. reading-cases (drop at s) (λ v n e. value v n (read-from w s at h ∙ e)) (λ why e. fault why (read-from w s at h ∙ e)))
 
 -- an answer keeps a promise where what is promised is the same, and so does one that keeps another promise of the same
 module _ {A : Type 0} {b : Answer A} where

@@ -7,9 +7,9 @@ use native.Mathlib.Numerals.{add-one}
 use native.Mathlib.Omega.{arith}
 use borrow.Author.Tests.{lt-ltb, le-ltb}
 use lib.ListN.{length, getD, take}
-use lib.Seq.{take-suc, length-take-le}
+use lib.Seq.{take-suc, length-take-le, getD-take, take-length}
 use Rattle.words.proofs.Cases.{by-order}
-use Rattle.groups.specs.Group.{run, digits}
+use Rattle.groups.specs.Group.{High, run, digits}
 
 pub run-low : (b : ℕ) (s : List ℕ) → b < 128 → run (b ∷ s) ≡ 0
 unfolding run
@@ -54,6 +54,28 @@ run-more s i le in-s high =
 -- the first byte below 128
 pub run-ends : (s : List ℕ) (i : ℕ) → i ≤ run s → getD s i 0 < 128 → run s ≡ i
 run-ends s i le low = by-order i (run s) (λ l. let f : 128 ≤ getD s i 0 = in-run s i l in absurd (omega arith)) (λ l. omega arith)
+
+-- high bytes are those that `run` counts
+pub high-run : (l : List ℕ) (j : ℕ) → j ≤ length l → High (take j l) → j ≤ run l
+high-run l j h f =
+    by-order (run l) j
+    (λ lt.
+    let b : getD l (run l) 0 < 128 = at-run l (omega arith) in
+    let t : getD (take j l) (run l) 0 ≡ getD l (run l) 0 = getD-take j l (run l) 0 lt in
+    absurd (omega (arith, f (run l) (rw (length-take-le j l h) lt))))
+    (λ ge. ge)
+
+pub run-take-high : (l : List ℕ) (j : ℕ) → j ≤ run l → High (take j l)
+run-take-high l j h i lt =
+    let n : length (take j l) ≡ j = length-take-le j l (omega (arith, run-within l)) in
+    let k : i < j = omega arith in
+    rw (getD-take j l i 0 k) (in-run l i (omega arith))
+
+pub all-high : (l : List ℕ) → High l → run l ≡ length l
+all-high l h = omega (arith, run-within l, high-run l (length l) (omega arith) (rw (take-length l) h))
+
+pub high-all : (l : List ℕ) → length l ≤ run l → High l
+high-all l h = rw (take-length l) at (run-take-high l (length l) h)
 
 -- the digits, a byte more
 pub digits-more : (g : List ℕ) (b : ℕ) → digits (g ++ b ∷ []) ≡ digits g + 128 ^ length g * (b % 128)

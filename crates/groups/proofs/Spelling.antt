@@ -5,7 +5,7 @@
 --   Spelled m g         g spells m: the last byte says what is left, once it is below small
 --   spelled, unique     `spell` gives such a list, and there is no other
 use Prim.Native.Nat.{ℕ, zero, suc, _+_, _*_, _/_, _%_, _^_, _≤_, _<_}
-use mathlib.Core.Path.{_≡_, refl, sym, subst}
+use mathlib.Core.Path.{_≡_, refl, ap, sym, subst}
 use mathlib.Core.List.{List, [], _∷_}
 use mathlib.Core.Bool.{Bool, true, false}
 use native.Mathlib.Nat.{mod-eq-of-lt, pow-succ', mul-assoc, mul-le-mul-left, mul-left-comm}
@@ -16,9 +16,18 @@ use Rattle.words.specs.declared.Written.{Written}
 use Rattle.words.proofs.Cases.{by-order}
 use Rattle.groups.specs.Group.{run, Group, one, more, digits}
 use Rattle.groups.specs.Form.{say, groups, spellings, spell}
-use Rattle.groups.specs.Laying.{Lays}
+use Rattle.words.specs.Laying.{Lays}
 use Rattle.groups.proofs.Run.{run-low, run-high, pow-up}
-use Rattle.groups.proofs.Layings.{say-below}
+
+pub say-below : (below : Bool) (d : ℕ) → d < 128 → say below d < 128
+say-below true d h = omega arith
+say-below false d h = h
+
+pub length-groups : (below : Bool) (n m : ℕ) → length (groups below n m) ≡ n
+unfolding groups
+length-groups below zero m = refl
+length-groups below (suc zero) m = refl
+length-groups below (suc (suc n)) m = ap suc (length-groups below (suc n) (m / 128))
 
 unfoldable pub said : Bool → List ℕ → ℕ
 said below [] = 0

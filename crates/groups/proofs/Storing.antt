@@ -11,8 +11,9 @@ use lib.Seq.{paste, paste-zero, paste-suc, take-length, getD-drop, drop-drop}
 use Rattle.words.specs.declared.Count.{Count}
 use Rattle.words.specs.declared.Written.the-variants.{Bytes}
 use Rattle.groups.specs.Form.{say, groups}
-use Rattle.groups.specs.Laying.{Lays}
-use Rattle.groups.proofs.Layings.{lays, length-groups}
+use Rattle.words.specs.Laying.{Lays}
+use Rattle.words.proofs.Laying.{fits-there}
+use Rattle.groups.proofs.Spelling.{length-groups}
 
 -- all of the bytes pasted are the bytes laid down
 pasted-all : (bytes s : List ℕ) (at n : ℕ) → n ≡ length bytes → paste s at bytes n ≡ take at s ++ bytes ++ drop (at + length bytes) s
@@ -22,19 +23,20 @@ pub none-laid : (below : Bool) (m : ℕ) (s : List ℕ) (at : ℕ) (n : Count) �
     → Lays (groups below (n .0) m) s at (Bytes n) s
 none-laid below m s at n e h =
     let z : length (groups below (n .0) m) ≡ 0 = length-groups below (n .0) m ∙ e in
-    lays (groups below (n .0) m) s at n (rw z (omega arith)) (e ∙ sym z)
+    fits-there (groups below (n .0) m) s at n (rw z (omega arith)) (e ∙ sym z)
     (paste-zero s at (groups below (n .0) m) ∙ pasted-all (groups below (n .0) m) s at 0 (sym z))
 
 -- i bytes of more + 1 are stored, and what is left of the group spells rest
 pub record Stored (below : Bool) (more m : ℕ) (s : List ℕ) (at : ℕ) (out : List ℕ) (rest i : ℕ) : Type 0 where
+  pub room : at + suc more ≤ length s
   pub few : i ≤ more
   pub pasted : out ≡ paste s at (groups below (suc more) m) i
   pub left : drop i (groups below (suc more) m) ≡ groups below (suc (more - i)) rest
   pub kept : length out ≡ length s
 
-module _ (below : Bool) (more m : ℕ) (s : List ℕ) (at : ℕ) (room : at + suc more ≤ length s) where
-  pub none-stored : Stored below more m s at s m 0
-  none-stored = record { few = omega arith; pasted = paste-zero s at (groups below (suc more) m); left = rw (sub-zero more); kept = refl }
+module _ (below : Bool) (more m : ℕ) (s : List ℕ) (at : ℕ) where
+  pub none-stored : at + suc more ≤ length s → Stored below more m s at s m 0
+  none-stored room = record { room = room; few = omega arith; pasted = paste-zero s at (groups below (suc more) m); left = rw (sub-zero more); kept = refl }
 
   module _ {out : List ℕ} {rest i : ℕ} (g : Stored below more m s at out rest i) where
     -- the byte that stands next in the group, stored
@@ -48,7 +50,7 @@ module _ (below : Bool) (more m : ℕ) (s : List ℕ) (at : ℕ) (room : at + su
       next-stored : set out (at + i) b ≡ paste s at (groups below (suc more) m) (suc i)
       next-stored =
           ap (λ (k : List ℕ). set k (at + i) b) (g .pasted) ∙ ap (set (paste s at (groups below (suc more) m) i) (at + i)) (sym next)
-          ∙ paste-suc s at (groups below (suc more) m) i 0 (omega (arith, g .few)) (rw (length-groups below (suc more) m) (omega (arith, g .few)))
+          ∙ paste-suc s at (groups below (suc more) m) i 0 (omega (arith, g .few, g .room)) (rw (length-groups below (suc more) m) (omega (arith, g .few)))
 
       rest-left : drop (i + 1) (groups below (suc more) m) ≡ l
       rest-left = sym (drop-drop 1 i (groups below (suc more) m)) ∙ ap (drop 1) bytes-left
@@ -59,7 +61,7 @@ module _ (below : Bool) (more m : ℕ) (s : List ℕ) (at : ℕ) (room : at + su
         let k : more - i ≡ suc (more - (i + 1)) = omega arith in
         let e : groups below (suc (more - i)) rest ≡ (128 + say below (rest % 128)) ∷ groups below (suc (more - (i + 1))) (rest / 128) =
         rw k in
-        record { few = omega arith; pasted = next-stored _ _ e ∙ rw add-one; left = rest-left _ _ e; kept = simp length-set (g .kept) }
+        record { room = g .room; few = omega arith; pasted = next-stored _ _ e ∙ rw add-one; left = rest-left _ _ e; kept = simp length-set (g .kept) }
 
     last-byte : more ≤ i → groups below (suc (more - i)) rest ≡ say below (rest % 128) ∷ []
     unfolding groups
@@ -71,5 +73,5 @@ module _ (below : Bool) (more m : ℕ) (s : List ℕ) (at : ℕ) (room : at + su
         let j : i ≡ more = omega (arith, g .few) in
         let p : set out (at + more) (say below (rest % 128)) ≡ paste s at (groups below (suc more) m) (suc more) =
         rw j at (next-stored _ _ (last-byte h)) in
-        lays (groups below (n .0) m) s at n (rw (length-groups below (n .0) m, c) room) (sym (length-groups below (n .0) m))
+        fits-there (groups below (n .0) m) s at n (rw (length-groups below (n .0) m, c) (g .room)) (sym (length-groups below (n .0) m))
         (rw c (p ∙ pasted-all (groups below (suc more) m) s at (suc more) (sym (length-groups below (suc more) m))))

@@ -2,5 +2,4 @@ pub mod Group
 pub mod Width
 pub mod Form
 pub mod Begins
-pub mod Laying
 pub mod Promise

@@ -3,6 +3,7 @@ use words::Count;
 use words::Place;
 use words::Refusal;
 use words::Written;
+use words::has_room;
 ghost use mathlib.Core.Path.{_≡_};
 ghost use Prim.Native.Nat.{_<_};
 ghost use Rattle.groups.specs.Form.{say};
@@ -22,11 +23,8 @@ pub fn store(m: u64, below: bool, count: Count, buffer: &mut [u8], place: Place)
 {
     let at = place.0;
     let n = count.0;
-    if buffer.len() < at {
-        return Written::Refused(Refusal::NoRoom);
-    }
-    let room = buffer.len() - at;
-    if room < n {
+    let room = has_room(buffer.len(), place, count);
+    if !room {
         return Written::Refused(Refusal::NoRoom);
     }
     if n < 1 {

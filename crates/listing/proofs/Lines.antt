@@ -18,7 +18,7 @@ use types.Run.{OneOf, miss}
 use Rattle.words.specs.Answer.{pick}
 use Rattle.words.specs.Refusal.{numberOf}
 use Rattle.words.proofs.Cases.{by-test}
-use Rattle.words.proofs.Numbered.{same-refusal}
+use Rattle.words.proofs.OneNumber.{same-refusal}
 use Rattle.words.specs.declared.Count.{Count}
 use Rattle.words.specs.declared.Refusal.{Refusal}
 use Rattle.words.proofs.Refusal.{parts, the-type}

@@ -14,8 +14,7 @@ ghost use Prim.Native.Nat.{_≤_};
 ghost use lib.ListN.{length};
 ghost use Rattle.words.specs.Refusal.{numberOf};
 ghost use Rattle.texts.specs.Texts.{Lays};
-ghost use Rattle.listing.specs.Listing.{line-room, fault};
-ghost use Rattle.listing.specs.Listing.{row as rowOf};
+ghost use Rattle.listing.specs.Listing.{line-room, fault, row as rowOf};
 ghost use Rattle.listing.specs.Promise.{GivesLine};
 
 // A buffer of so many bytes holds every line.

@@ -1,48 +1,21 @@
 -- Laying a list's forms down one after another: what the loop holds, from what a writer of one number promises.
-use Prim.Native.Nat.{ℕ, suc, _+_, _-_, _≤_, _<_}
+use Prim.Native.Nat.{ℕ, _+_, _-_, _≤_, _<_}
 use mathlib.Core.Path.{_≡_, refl, ap, sym, _∙_}
-use mathlib.Core.List.{List, [], _∷_, _++_}
-use native.Mathlib.Nat.{add-zero}
+use mathlib.Core.List.{List, []}
 use native.Mathlib.Omega.{arith}
-use borrow.Author.Tests.{le-leb, lt-ltb, le-ltb}
-use lib.ListN.{length, getD, drop, set}
+use borrow.Author.Tests.{lt-ltb, le-ltb}
+use lib.ListN.{length, getD, drop}
 use lib.Seq.{sets, sets-eq, length-sets}
-use Rattle.words.specs.Answer.{gives, refused, meansWritten}
-use Rattle.words.specs.Refusal.{numberOf}
 use Rattle.words.specs.declared.Count.{Count}
-use Rattle.words.specs.declared.Refusal.{Refusal}
 use Rattle.words.specs.declared.Refusal.the-variants.{TooLong}
 use Rattle.words.specs.declared.Written.{Written}
 use Rattle.words.specs.declared.Written.the-variants.{Bytes, Refused}
-use Rattle.groups.specs.Laying.{writing, laid, Lays}
-use Rattle.groups.proofs.Layings.{lays}
+use Rattle.words.specs.Laying.{Lays}
+use Rattle.words.proofs.Laying.{fits-there, sets-append}
 use Rattle.uleb128.specs.Unsigned.{form}
 use Rattle.lists.specs.Lists.{list-limit, forms}
 use Rattle.lists.specs.Promise.{WritesList}
 use Rattle.lists.proofs.Totals.{forms-next, forms-end, length-next}
-
-sets-append : (a b l : List ℕ) (i : ℕ) → sets l i (a ++ b) ≡ sets (sets l i a) (i + length a) b
-sets-append [] b l i = rw (add-zero i)
-sets-append (x ∷ a) b l i =
-    let e : i + length (x ∷ a) ≡ suc i + length a = omega arith in rw e (sets-append a b (set l i x) (suc i))
-
--- what a writer's answer says where there is room
-module _ {bytes s : List ℕ} {at : ℕ} {r : Written} {out : List ℕ} (room : at + length bytes ≤ length s) (l : Lays bytes s at r out) where
-  pub laid-there : out ≡ sets s at bytes
-  unfolding laid
-  laid-there = l .leaves ∙ rw (le-leb (at + length bytes) (length s) room) (sym (sets-eq bytes s at room))
-
-  answers : meansWritten r ≡ gives (length bytes)
-  unfolding writing
-  answers = l .answer ∙ rw (le-leb (at + length bytes) (length s) room)
-
-  pub laid-count : {n : Count} → r ≡ Bytes n → n .0 ≡ length bytes
-  laid-count {n} e = let q : gives (n .0) ≡ gives (length bytes) = ap meansWritten (sym e) ∙ answers in cc
-
-  pub no-refusal : {X : Type 0} {k : Refusal} → r ≡ Refused k → X
-  no-refusal {k = k} e =
-      let q : refused (numberOf k) ≡ gives (length bytes) = ap meansWritten (sym e) ∙ answers in
-      let z : _≡_ {A = ℕ} 0 1 = cc in absurd (omega arith)
 
 -- the forms of i numbers are laid down, up to the place to
 pub record LaidSoFar (ns s : List ℕ) (at : ℕ) (out : List ℕ) (to i : ℕ) : Type 0 where
@@ -76,7 +49,7 @@ module _ (ns s : List ℕ) (at : ℕ) (room : at + length (forms ns) ≤ length 
     pub all-laid : length ns ≤ i → (n : Count) → n .0 ≡ to - at → Lays (forms ns) s at (Bytes n) out
     all-laid h n e =
         let z : forms (drop i ns) ≡ [] = forms-end ns i (g .within) h in
-        lays (forms ns) s at n room (omega (arith, g .ends, g .behind, ap length z))
+        fits-there (forms ns) s at n room (omega (arith, g .ends, g .behind, ap length z))
         ((rw z at (g .left)) ∙ sets-eq (forms ns) s at room)
 
 module _ (ns s : List ℕ) (at : ℕ) where

@@ -5,3 +5,4 @@ pub mod Passing
 pub mod Scanning
 pub mod Answers
 pub mod Filling
+pub mod OneList

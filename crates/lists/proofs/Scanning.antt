@@ -2,12 +2,12 @@
 use Prim.Native.Nat.{ℕ, _+_, _≤_, _<_}
 use mathlib.Core.Path.{_≡_, refl, ap, sym, _∙_}
 use mathlib.Core.List.{List, []}
-use mathlib.Core.Bool.{true}
 use native.Mathlib.Omega.{arith}
 use lib.ListN.{length, drop, length-drop}
 use Rattle.words.specs.Answer.{Answer, gives, refused}
-use Rattle.blocks.specs.Block.{block-limit, isStart}
-use Rattle.blocks.proofs.Runs.{front-starts}
+use Rattle.blocks.specs.Block.{block-limit}
+use Rattle.blocks.specs.GroupsAndTail.{Start}
+use Rattle.blocks.proofs.FromStart.{front-start}
 use Rattle.lists.specs.Strict.{numbers}
 use Rattle.lists.specs.Inner.{ahead, many, StartsBefore, Behind}
 use Rattle.lists.proofs.Fronts.{numbers-none}
@@ -27,8 +27,7 @@ added-one n v (refused k) = refl
 -- count numbers stand in front of the start at
 pub record Counted (s : List ℕ) (at count : ℕ) : Type 0 where
   pub short : length s ≤ block-limit
-  pub within : at ≤ length s
-  pub starts : isStart s at ≡ true
+  pub start : Start s at
   pub few : count ≤ at
   pub left : many (numbers s) ≡ added count (many (numbers (drop at s)))
 
@@ -37,22 +36,20 @@ module _ (s : List ℕ) where
   none-counted h =
       record {
         short = h;
-        within = omega arith;
-        starts = sym (front-starts s 0 (omega arith));
+        start = front-start s;
         few = omega arith;
         left = added-none (many (numbers s));
       }
 
   module _ {at count : ℕ} (g : Counted s at count) where
     pub start-here : at < length s → StartsBefore s at
-    start-here h = record { short = g .short; before-end = h; starts = g .starts }
+    start-here h = record { short = g .short; before-end = h; start = g .start }
 
     pub one-counted : {v q : ℕ} → Behind s at v q → Counted s q (count + 1)
     one-counted {v} {q} b =
         record {
           short = g .short;
-          within = b .within;
-          starts = b .starts;
+          start = b .start;
           few = omega (arith, g .few, b .further);
           left = g .left ∙ rw (b .left) (added-one count v (numbers (drop q s)));
         }

@@ -11,12 +11,12 @@
 --   Scans s r           r says how many numbers the block s has, or its first fault
 use Prim.Native.Nat.{ℕ, _+_, _≤_, _<_}
 use mathlib.Core.List.{List, _∷_}
-use mathlib.Core.Bool.{true}
 use mathlib.Core.Path.{_≡_}
 use lib.ListN.{length, drop}
 use Rattle.words.specs.Answer.{Answer, gives, refused}
 use Rattle.words.specs.Refusal.{numberOf}
-use Rattle.blocks.specs.Block.{block-limit, isStart}
+use Rattle.blocks.specs.Block.{block-limit}
+use Rattle.blocks.specs.GroupsAndTail.{Start}
 use Rattle.lists.specs.Strict.{numbers}
 use Rattle.lists.specs.declared.reading.Passed.{Passed}
 use Rattle.lists.specs.declared.reading.Passed.the-variants as P
@@ -42,12 +42,11 @@ pub record Fits (s : List ℕ) (room : ℕ) : Type 0 where
 pub record StartsBefore (s : List ℕ) (p : ℕ) : Type 0 where
   pub short : length s ≤ block-limit
   pub before-end : p < length s
-  pub starts : isStart s p ≡ true
+  pub start : Start s p
 
 pub record Behind (s : List ℕ) (p v q : ℕ) : Type 0 where
   pub further : p < q
-  pub within : q ≤ length s
-  pub starts : isStart s q ≡ true
+  pub start : Start s q
   pub left : numbers (drop p s) ≡ ahead v (numbers (drop q s))
 
 abbrev pub Passes : List ℕ → ℕ → Passed → Type 0

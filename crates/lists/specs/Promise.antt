@@ -10,7 +10,7 @@ use lib.Dec.{ltb}
 use lib.ListN.{length}
 use Rattle.words.specs.Answer.{pick, refused, meansWritten, Answer, gives}
 use Rattle.words.specs.declared.Written.{Written}
-use Rattle.groups.specs.Laying.{writing, laid}
+use Rattle.words.specs.Laying.{writing, laid}
 use Rattle.lists.specs.Lists.{list-limit, forms}
 use Rattle.words.specs.Refusal.{numberOf}
 use Rattle.lists.specs.Strict.{strict, filled}

@@ -5,10 +5,11 @@ use words::Count;
 use words::Place;
 use words::Refusal;
 use words::Written;
+use words::has_room;
 ghost use mathlib.Core.Path.{_≡_};
 ghost use Prim.Native.Nat.{_+_, _≤_};
 ghost use lib.ListN.{length};
-ghost use Rattle.groups.specs.Laying.{Lays};
+ghost use Rattle.words.specs.Laying.{Lays, Takes};
 ghost use Rattle.lists.specs.Lists.{list-limit, forms};
 ghost use Rattle.lists.specs.Promise.{WritesList};
 
@@ -16,9 +17,9 @@ ghost use Rattle.lists.specs.Promise.{WritesList};
 const LIST_LIMIT: usize = 4096;
 
 // How many bytes the numbers' forms take in all.
-fn total_length(numbers: &[u64]) -> usize
+fn total_length(numbers: &[u64]) -> Count
     requires { ⌜ length (now numbers) ≤ list-limit ⌝ }
-    ensures { λ r. ⌜ r ≡ length (forms (now (numbers .entry))) ⌝ }
+    ensures { λ r. ⌜ Takes (forms (now (numbers .entry))) r ⌝ }
 {
     let mut total: usize = 0;
     let mut i: usize = 0;
@@ -29,7 +30,7 @@ fn total_length(numbers: &[u64]) -> usize
         total += n;
         i += 1;
     }
-    total
+    Count(total)
 }
 
 // Lays the numbers' forms down at a place where there is room for them, so that no number's writer refuses.
@@ -63,14 +64,11 @@ pub fn write_list(numbers: &[u64], buffer: &mut [u8], place: Place) -> Written
     if LIST_LIMIT < numbers.len() {
         return Written::Refused(Refusal::TooLong);
     }
-    let at = place.0;
-    if buffer.len() < at {
-        return Written::Refused(Refusal::NoRoom);
-    }
     let total = total_length(numbers);
-    let room = buffer.len() - at;
-    if room < total {
+    let room = has_room(buffer.len(), place, total);
+    if !room {
         return Written::Refused(Refusal::NoRoom);
     }
+    let at = place.0;
     lay(numbers, buffer, at)
 }

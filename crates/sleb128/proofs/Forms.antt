@@ -12,7 +12,7 @@ use native.Mathlib.Nat.{le-antisymm}
 use lib.ListN.{length}
 use Rattle.words.specs.declared.Written.{Written}
 use Rattle.groups.specs.Form.{groups}
-use Rattle.groups.specs.Laying.{Lays}
+use Rattle.words.specs.Laying.{Lays}
 use Rattle.uleb128.specs.Unsigned.{form as unsigned-form}
 use Rattle.uleb128.proofs.Forms.{form-spelled as unsigned-spelled}
 

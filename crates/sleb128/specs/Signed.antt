@@ -4,7 +4,6 @@
 --   signed b m   m, or -m-1 if b: the number whose magnitude `mag` is m
 --   twos k n     the value of the 7k bits of n in two's complement
 --   form v       the shortest form: seven bits a byte of v's two's complement, until the byte's bit of weight 64 tells the sign
---   either       one of two tests holds
 --   i64          the width of 64 bits
 use Prim.Native.Nat.{ℕ, _*_, _-_, _%_, _^_}
 use mathlib.Core.List.{List}
@@ -13,7 +12,7 @@ use lib.Dec.{leb, ltb, eqb}
 use lib.IntN.{ℤ, pos, negsuc, subℕ}
 use lib.ListN.{length}
 use lib.Signed.{mag}
-use Rattle.words.specs.Answer.{pick, both}
+use Rattle.words.specs.Answer.{pick, both, either}
 use Rattle.groups.specs.Group.{digits}
 use Rattle.groups.specs.Form.{spell}
 use Rattle.groups.specs.Width.{Width}
@@ -31,10 +30,6 @@ form v = spell (below v) 64 (mag v)
 
 unfoldable pub twos : ℕ → ℕ → ℤ
 twos k n = pick (ltb n (2 ^ (7 * k - 1))) (pos n) (subℕ n (2 ^ (7 * k)))
-
-abbrev pub either : Bool → Bool → Bool
-either true b = true
-either false b = b
 
 -- a last byte 0 after a byte whose bit of weight 64 is clear is one too many, and so is 127 after one where it is set
 abbrev pub i64 : Width ℤ

@@ -8,18 +8,12 @@
 use Prim.Native.Nat.{ℕ, zero, suc, _+_, _-_, _≤_, _<_}
 use mathlib.Core.Path.{_≡_, refl, ap, _∙_}
 use mathlib.Core.List.{List, [], _∷_, _++_}
-use native.Mathlib.Nat.{add-zero}
 use native.Mathlib.Numerals.{add-one}
 use native.Mathlib.Omega.{arith}
 use lib.ListN.{length, take, drop, getD, length-take, length-append}
 use lib.Seq.{sets, length-sets, take-suc, take-all, take-nil, length-take-le, sets-eq}
+use Rattle.words.proofs.Laying.{sets-append}
 use Rattle.texts.specs.Texts.{Lays}
-
-sets-append : (a b l : List ℕ) (i : ℕ) → sets l i (a ++ b) ≡ sets (sets l i a) (i + length a) b
-sets-append [] b l i = rw add-zero
-sets-append (x ∷ a) b l i =
-    let e : suc i + length a ≡ i + suc (length a) = omega arith in
-    sets-append a b _ (suc i) ∙ ap (λ (k : ℕ). sets (sets l i (x ∷ a)) k b) e
 
 take-append : (n : ℕ) (a b : List ℕ) → take n (a ++ b) ≡ take n a ++ take (n - length a) b
 take-append zero [] b = refl

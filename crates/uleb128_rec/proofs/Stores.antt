@@ -7,8 +7,8 @@ use native.Mathlib.Omega.{arith}
 use lib.ListN.{length, set}
 use lib.Seq.{sets, sets-eq, set-comm}
 use Rattle.words.specs.declared.Written.the-variants.{Bytes}
-use Rattle.groups.specs.Laying.{Lays}
-use Rattle.groups.proofs.Layings.{lays}
+use Rattle.words.specs.Laying.{Lays}
+use Rattle.words.proofs.Laying.{fits-there}
 use Rattle.uleb128.specs.Unsigned.{form}
 use Rattle.uleb128_rec.specs.Inner.{WritesRest, Fits}
 use Rattle.uleb128.proofs.Forms.{form-small, form-large, form-some}
@@ -51,4 +51,4 @@ module _ (v : ℕ) (s : List ℕ) (at : ℕ) where
 
 pub all-written : (v : ℕ) (s : List ℕ) (at r : ℕ) {out : List ℕ} → at + length (form v) ≤ length s → WritesRest v s at r out
     → Lays (form v) s at (Bytes (record { 0 = r })) out
-all-written v s at r h w = lays (form v) s at (record { 0 = r }) h (w .count) (w .leaves ∙ sets-eq (form v) s at h)
+all-written v s at r h w = fits-there (form v) s at (record { 0 = r }) h (w .count) (w .leaves ∙ sets-eq (form v) s at h)

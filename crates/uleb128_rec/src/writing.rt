@@ -5,6 +5,7 @@ use words::Count;
 use words::Place;
 use words::Refusal;
 use words::Written;
+use words::has_room;
 ghost use Rattle.uleb128_rec.specs.Promise.{WritesU64Rec};
 ghost use Rattle.uleb128_rec.specs.Inner.{WritesRest, Fits};
 
@@ -32,16 +33,13 @@ fn write_rest(v: u64, buffer: &mut [u8], at: usize, left: usize) -> usize
 pub fn write_u64_rec(v: u64, buffer: &mut [u8], place: Place) -> Written
     ensures { λ r. ⌜ WritesU64Rec v (now (buffer .entry)) (place .0) r (now (buffer .exit)) ⌝ }
 {
-    let at = place.0;
     let needed = length_u64(v);
+    let room = has_room(buffer.len(), place, needed);
+    if !room {
+        return Written::Refused(Refusal::NoRoom);
+    }
+    let at = place.0;
     let n = needed.0;
-    if buffer.len() < at {
-        return Written::Refused(Refusal::NoRoom);
-    }
-    let room = buffer.len() - at;
-    if room < n {
-        return Written::Refused(Refusal::NoRoom);
-    }
     let count = write_rest(v, buffer, at, n);
     Written::Bytes(Count(count))
 }

@@ -1,2 +1,4 @@
 pub mod Cases
-pub mod Numbered
+pub mod OneNumber
+pub mod Laying
+pub mod OneMeaning

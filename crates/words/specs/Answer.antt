@@ -2,8 +2,9 @@
 --
 --   pick         one of two things, by a test
 --   both         two tests hold
+--   either       one of two tests holds
 --   Answer A     what was asked for, or a refusal by its number
---   meansWritten      what a writer's answer says
+--   meansWritten what a writer's answer says
 use Prim.Native.Nat.{ℕ}
 use mathlib.Core.Bool.{Bool, true, false}
 use Rattle.words.specs.Refusal.{numberOf}
@@ -17,6 +18,10 @@ pick false a b = b
 abbrev pub both : Bool → Bool → Bool
 both true b = b
 both false b = false
+
+abbrev pub either : Bool → Bool → Bool
+either true b = true
+either false b = b
 
 pub data Answer (A : Type 0) : Type 0 where
   gives : A → Answer A

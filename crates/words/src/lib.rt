@@ -1,6 +1,6 @@
 // The kinds of number and the refusals that every crate shares: document 01, "The numbers on the page"
 // and "When the number desk refuses".
-ghost use Rattle.words.specs.Promise.{Numbers};
+ghost use Rattle.words.specs.Promise.{Numbered, HasRoom};
 
 // A place in a buffer or in a run of bytes.
 pub struct Place(pub usize);
@@ -28,7 +28,7 @@ pub enum Written {
 
 // The number of a refusal, 1 to 8.
 pub fn number(refusal: Refusal) -> u8
-    ensures { λ r. ⌜ Numbers refusal r ⌝ }
+    ensures { λ r. ⌜ Numbered refusal r ⌝ }
 {
     match refusal {
         Refusal::End => 1,
@@ -40,4 +40,17 @@ pub fn number(refusal: Refusal) -> u8
         Refusal::TooLong => 7,
         Refusal::NoStart => 8,
     }
+}
+
+// Whether so many bytes fit a buffer of this size at the place. Place and count are not added up, so that no sum can be too large.
+pub fn has_room(size: usize, place: Place, count: Count) -> bool
+    ensures { λ r. ⌜ HasRoom size (place .0) (count .0) r ⌝ }
+{
+    let at = place.0;
+    let n = count.0;
+    if size < at {
+        return false;
+    }
+    let room = size - at;
+    n <= room
 }

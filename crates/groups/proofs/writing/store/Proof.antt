@@ -1,9 +1,12 @@
 -- `groups::store` meets its promise: the loop holds `Stored`, and each way out is a law of `Storing`.
 use Prim.Native.Nat.{_-_, _%_}
+use mathlib.Core.Path.{sym}
 use lib.ListN.{length-set}
 use borrow.Author.Needs.{needs}
 use native.Mathlib.Omega.{arith}
-use Rattle.groups.proofs.Layings.{no-room, length-groups, say-below}
+use borrow.Author.Tests.{not-true, not-false}
+use Rattle.words.proofs.Laying.{room-refused, room-there}
+use Rattle.groups.proofs.Spelling.{length-groups, say-below}
 use Rattle.groups.proofs.Storing.{Stored, none-stored, one-stored, all-stored, none-laid}
 use Rattle.groups.proofs.writing.store.Statement.{statement}
 use Rattle.groups.proofs.writing.store.Tie as tie
@@ -14,20 +17,17 @@ Inv-loop m below count buffer₀ at n room more rest₀ i₀ buffer rest i = Sto
 abbrev μ-loop : tie.MeasureT-loop
 μ-loop m below count buffer₀ at n room more rest₀ i₀ buffer rest i = more - i
 
-returns : tie.Need-returns Inv-loop μ-loop
-returns c = no-room _ _ _ (omega arith)
+has-room-requires : tie.Need-has-room-requires Inv-loop μ-loop
+has-room-requires c κs = search needs
 
-sub-room : tie.Need-sub-room Inv-loop μ-loop
-sub-room c = search needs
+returns : tie.Need-returns Inv-loop μ-loop
+returns c = room-refused _ _ _ (c .before .has-room .ensures) (sym (length-groups _ _ _)) (not-true _ (c .if1 .taken))
 
 returns-2 : tie.Need-returns-2 Inv-loop μ-loop
-returns-2 c = no-room _ _ _ (omega (arith, length-groups (c .before .before .before .args .below) (c .before .before .before .args .count .0) (c .before .before .before .args .m)))
-
-returns-3 : tie.Need-returns-3 Inv-loop μ-loop
-returns-3 c = none-laid _ _ _ _ _ (omega arith) (c .before .before .if1 .left)
+returns-2 c = none-laid _ _ _ _ _ (omega arith) (omega (arith, room-there (c .before .before .has-room .ensures) (not-false _ (c .before .if1 .left))))
 
 loop-holds : tie.Need-loop-holds Inv-loop μ-loop
-loop-holds c = none-stored _ _ _ _ _ (omega arith)
+loop-holds c = none-stored _ _ _ _ _ (omega (arith, room-there (c .before .before .has-room .ensures) (not-false _ (c .before .if1 .left))))
 
 cast-bits : tie.Need-cast-bits Inv-loop μ-loop
 cast-bits c = search needs
@@ -53,7 +53,7 @@ loop-less c = search needs
 loop-again : tie.Need-loop-again Inv-loop μ-loop
 loop-again c =
     rw (c .said .ensures)
-    (one-stored _ _ _ _ _ (omega arith) (c .before .before .loop .inv) (search needs))
+    (one-stored _ _ _ _ _ (c .before .before .loop .inv) (search needs))
 
 cast-bits-2 : tie.Need-cast-bits-2 Inv-loop μ-loop
 cast-bits-2 c = search needs
@@ -70,10 +70,10 @@ slice-write-buffer-2 c = search needs
 same-length : tie.Need-same-length Inv-loop μ-loop
 same-length c = simp length-set (c .before .before .loop .inv .kept)
 
-returns-4 : tie.Need-returns-4 Inv-loop μ-loop
-returns-4 c =
+returns-3 : tie.Need-returns-3 Inv-loop μ-loop
+returns-3 c =
     rw (c .said2 .ensures)
-    (all-stored _ _ _ _ _ (omega arith) (c .before .before .loop .inv) _ (omega arith) (c .before .loop-test .left))
+    (all-stored _ _ _ _ _ (c .before .before .loop .inv) _ (omega arith) (c .before .loop-test .left))
 
 pub store-spec : {M : Type 1} → statement M
 store-spec =
@@ -81,10 +81,9 @@ store-spec =
     (tie.spec
     Inv-loop
     μ-loop
+    has-room-requires
     returns
-    sub-room
     returns-2
-    returns-3
     loop-holds
     cast-bits
     said-requires
@@ -99,4 +98,4 @@ store-spec =
     add-to-2
     slice-write-buffer-2
     same-length
-    returns-4)
+    returns-3)

@@ -5,7 +5,8 @@ use native.Mathlib.Omega.{arith}
 use borrow.Author.Needs.{needs}
 use lib.ListN.{length, getD}
 use Rattle.uleb128.specs.Unsigned.{form}
-use Rattle.lists.proofs.Layings.{LaidSoFar, laid-there, laid-count, no-refusal, none-laid, room-next, one-laid, all-laid}
+use Rattle.lists.proofs.Layings.{LaidSoFar, none-laid, room-next, one-laid, all-laid}
+use Rattle.words.proofs.Laying.{laid-there, laid-count, never-refused}
 use Rattle.lists.proofs.writing.lay.Statement.{statement}
 use Rattle.lists.proofs.writing.lay.Tie as tie
 
@@ -70,12 +71,12 @@ enum-known-refusal c = search needs
 same-length : tie.Need-same-length Inv-loop μ-loop
 same-length c =
     let w = c .before .before .before .before .before in
-    no-refusal (there w) (w .write-u64 .ensures) (c .before .refusal .given .1)
+    never-refused (there w) (w .write-u64 .ensures) (c .before .refusal .given .1)
 
 returns : tie.Need-returns Inv-loop μ-loop
 returns c =
     let w = c .before .before .before .before .before in
-    no-refusal (there w) (w .write-u64 .ensures) (c .before .refusal .given .1)
+    never-refused (there w) (w .write-u64 .ensures) (c .before .refusal .given .1)
 
 sub-total : tie.Need-sub-total Inv-loop μ-loop
 sub-total c = search needs

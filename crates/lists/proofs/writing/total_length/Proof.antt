@@ -46,7 +46,7 @@ loop-again : tie.Need-loop-again Inv-loop μ-loop
 loop-again c = added c
 
 returns : tie.Need-returns Inv-loop μ-loop
-returns c = all-added _ (c .before .loop .inv) (c .loop-test .left)
+returns c = record { is = all-added _ (c .before .loop .inv) (c .loop-test .left) }
 
 pub total-length-spec : {M : Type 1} → statement M
 total-length-spec =

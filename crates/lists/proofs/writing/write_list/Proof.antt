@@ -1,7 +1,8 @@
 -- `lists::write_list` meets its promise: a law of `Layings` for each answer.
 use native.Mathlib.Omega.{arith}
 use borrow.Author.Needs.{needs}
-use Rattle.groups.proofs.Layings.{no-room}
+use borrow.Author.Tests.{not-true, not-false}
+use Rattle.words.proofs.Laying.{room-refused, room-there}
 use Rattle.lists.proofs.Layings.{list-too-long, list-laid}
 use Rattle.lists.proofs.writing.write_list.Statement.{statement}
 use Rattle.lists.proofs.writing.write_list.Tie as tie
@@ -9,36 +10,33 @@ use Rattle.lists.proofs.writing.write_list.Tie as tie
 returns : tie.Need-returns
 returns c = list-too-long _ _ _ (c .if1 .taken)
 
-returns-2 : tie.Need-returns-2
-returns-2 c = list-laid _ _ _ (c .before .if1 .left) (no-room _ _ _ (omega arith))
-
 total-length-requires : tie.Need-total-length-requires
 total-length-requires c κs = search needs
 
-sub-room : tie.Need-sub-room
-sub-room c = search needs
+has-room-requires : tie.Need-has-room-requires
+has-room-requires c κs = search needs
 
-returns-3 : tie.Need-returns-3
-returns-3 c = list-laid _ _ _ (search needs) (no-room _ _ _ (omega (arith, c .before .total-length .ensures)))
+returns-2 : tie.Need-returns-2
+returns-2 c =
+    list-laid _ _ _ (search needs) (room-refused _ _ _ (c .before .has-room .ensures) (c .before .before .total-length .ensures .is) (not-true _ (c .if2 .taken)))
 
 lay-requires : tie.Need-lay-requires
-lay-requires c κs = omega (arith, c .before .before .total-length .ensures)
+lay-requires c κs = omega (arith, c .before .before .before .total-length .ensures .is, room-there (c .before .before .has-room .ensures) (not-false _ (c .before .if2 .left)))
 
 same-length : tie.Need-same-length
 same-length c = search needs
 
-returns-4 : tie.Need-returns-4
-returns-4 c = list-laid _ _ _ (search needs) (c .before .before .lay .ensures)
+returns-3 : tie.Need-returns-3
+returns-3 c = list-laid _ _ _ (search needs) (c .before .before .lay .ensures)
 
 pub write-list-spec : {M : Type 1} → statement M
 write-list-spec =
     tie.close
     (tie.spec
     returns
-    returns-2
     total-length-requires
-    sub-room
-    returns-3
+    has-room-requires
+    returns-2
     lay-requires
     same-length
-    returns-4)
+    returns-3)

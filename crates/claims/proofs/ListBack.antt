@@ -1,0 +1,91 @@
+-- Lists written and read strictly.
+use Prim.Native.Nat.{ℕ, _+_, _≤_, _<_, _^_}
+use mathlib.Core.Path.{_≡_, refl, ap, sym, _∙_}
+use mathlib.Core.List.{List, [], _∷_, _++_, append-nil, append-assoc}
+use native.Mathlib.Omega.{arith}
+use lib.ListN.{length, take, drop, length-append}
+use lib.Seq.{length-take-le, drop-append-seam, take-append-seam}
+use borrow.Author.Tests.{le-leb, le-ltb}
+use Rattle.words.specs.Answer.{gives, meansWritten}
+use Rattle.words.specs.declared.Count.{Count}
+use Rattle.words.specs.declared.Written.the-variants as W
+use Rattle.words.proofs.Cases.{by-order}
+use Rattle.blocks.specs.Block.{block-limit}
+use Rattle.groups.specs.Group.{run}
+use Rattle.groups.specs.Width.{reading}
+use Rattle.groups.proofs.Standing.{reading-count}
+use Rattle.uleb128.specs.Unsigned.{form, u64}
+use Rattle.lists.specs.Lists.{list-limit, forms}
+use Rattle.lists.specs.Strict.{joined, numbers, strict, filled}
+use Rattle.lists.proofs.Fronts.{numbers-group, numbers-none}
+use Rattle.lists.specs.Promise.{WritesList}
+use Rattle.lists.specs.declared.ReadList.the-variants as L
+use Rattle.claims.specs.Readers.{loop64}
+use Rattle.claims.specs.OfLists.{ListBack, Of64Bits}
+use Rattle.claims.proofs.ReadGroup.{from-front}
+use Rattle.lists.proofs.OneList.{same-list}
+use Rattle.words.proofs.OneMeaning.{apart}
+use Rattle.claims.proofs.RoundTrips.{writes-list}
+use Rattle.claims.proofs.Readers.{reading-of}
+
+-- a number's form is read, whatever follows it
+read-form : (v : ℕ) (rest : List ℕ) → v < 2 ^ 64 → reading u64 (form v ++ rest) ≡ gives (v, length (form v))
+read-form v rest h = sym (from-front u64 (form v ++ rest)) ∙ reading-of loop64 .begun (form v ++ rest) 0 v (length (form v)) (record {
+  here = omega arith;
+  of-width = h;
+  rest = rest;
+  begins = refl;
+  count = refl;
+})
+
+pub form-alone : (v : ℕ) → v < 2 ^ 64 → reading u64 (form v) ≡ gives (v, length (form v))
+form-alone v h = ap (reading u64) (sym (append-nil (form v))) ∙ read-form v [] h
+
+-- a form in front is a number in front
+pub numbers-ahead : (v : ℕ) (l : List ℕ) → v < 2 ^ 64 → numbers (form v ++ l) ≡ joined (gives (v, length (form v))) (numbers l)
+numbers-ahead v rest h =
+    let l = form v ++ rest in
+    let c : length (form v) ≡ run l + 1 = reading-count u64 l (read-form v rest h) in
+    let r : run l < length l = rw length-append (omega (arith, c)) in
+    let t : take (run l + 1) l ≡ form v = ap (λ (n : ℕ). take n l) (sym c) ∙ take-append-seam (form v) rest in
+    let d : drop (run l + 1) l ≡ rest = ap (λ (n : ℕ). drop n l) (sym c) ∙ drop-append-seam (form v) rest in
+    numbers-group l r ∙ rw (t, d, form-alone v h)
+
+pub numbers-forms : (ns : List ℕ) → Of64Bits ns → numbers (forms ns) ≡ gives ns
+unfolding forms
+numbers-forms [] h = numbers-none [] refl
+numbers-forms (v ∷ ns) h = numbers-ahead v (forms ns) (h .0) ∙ rw (numbers-forms ns (h .1))
+
+-- what strict reading leaves of a block without a fault, for which there is room
+pub strictly : (s ns old : List ℕ) → length s ≤ block-limit → numbers s ≡ gives ns → length ns ≤ length old
+    → (strict s (length old) ≡ gives (length ns)) × (filled s old ≡ ns ++ drop (length ns) old)
+unfolding strict filled
+strictly s ns old short e room =
+    let t = le-ltb block-limit (length s) short in
+    let f = le-leb (length ns) (length old) room in
+    (rw (t, e, f), rw (t, e, f))
+
+-- a list that was written stands there
+written-there : (ns before : List ℕ) (at : ℕ) (n : Count) (after : List ℕ) → WritesList ns before at (W.Bytes n) after
+    → (n .0 ≡ length (forms ns)) × (take (n .0) (drop at after) ≡ forms ns)
+written-there ns before at n after w =
+    let rows = writes-list ns before at (W.Bytes n) after w in
+    by-order list-limit (length ns) (λ h. apart (ap meansWritten (rows .0 .0 h .0)))
+    (λ short. by-order (length before) (at + length (forms ns))
+    (λ h. apart (ap meansWritten (rows .1 short .1 .0 h .0)))
+    (λ h.
+    let q = rows .1 short .0 .0 h in
+    let k : gives (n .0) ≡ gives (length (forms ns)) = ap meansWritten (q .0) in
+    let m : n .0 ≡ length (forms ns) = cc in
+    let a : length (take at before) ≡ at = length-take-le at before (omega arith) in
+    let rest = drop (at + length (forms ns)) before in
+    let d : drop at after ≡ forms ns ++ rest =
+    ap (drop at) (q .1) ∙ rw append-assoc (ap (λ (i : ℕ). drop i (take at before ++ (forms ns ++ rest))) (sym a) ∙ drop-append-seam (take at before) (forms ns ++ rest)) in
+    (m, rw (m, d) (take-append-seam (forms ns) rest))))
+
+pub list-back : ListBack
+list-back ns before at n after old r out words w short room p =
+    let k = written-there ns before at n after w in
+    let b : length (take (n .0) (drop at after)) ≤ block-limit = rw (k .1) (rw (k .0) at short) in
+    let q = strictly (take (n .0) (drop at after)) ns old b (ap numbers (k .1) ∙ numbers-forms ns words) room in
+    (same-list r (L.Filled (record { 0 = length ns })) (p .answer ∙ q .0), p .leaves ∙ q .1)

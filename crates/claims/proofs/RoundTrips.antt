@@ -1,0 +1,147 @@
+-- The claims on writers and the round trips, once for all four.
+use Prim.Native.Nat.{ℕ, _+_, _-_, _≤_, _<_}
+use mathlib.Core.Path.{_≡_, refl, ap, sym, _∙_}
+use mathlib.Core.List.{List, _++_, append-assoc}
+use native.Mathlib.Omega.{arith}
+use borrow.Author.Tests.{le-leb, lt-leb, le-ltb, lt-ltb}
+use lib.ListN.{length, take, drop, length-append, length-drop, take-append-drop}
+use lib.Seq.{length-take-le, drop-at, drop-append-le, drop-drop, drop-append-seam}
+use Rattle.words.specs.Answer.{gives, meansWritten}
+use Rattle.words.specs.Refusal.{numberOf}
+use Rattle.words.specs.declared.Count.{Count}
+use Rattle.words.specs.declared.Refusal.the-variants.{NoRoom, TooLong}
+use Rattle.words.specs.declared.Written.{Written}
+use Rattle.words.specs.declared.Written.the-variants as W
+use Rattle.words.proofs.Cases.{by-order}
+use Rattle.groups.specs.Begins.{Begins}
+use Rattle.groups.specs.Group.{Bytes}
+use Rattle.words.specs.Laying.{writing, laid, Lays}
+use Rattle.lists.specs.Lists.{list-limit, forms}
+use Rattle.lists.specs.Promise.{WritesList}
+use Rattle.claims.specs.Readers.{Reader, loop64, recursive64, unsigned32, signed64, Value, number, Promised, form, OfWidth}
+use Rattle.claims.specs.Writers.{Laying}
+use Rattle.claims.specs.OfNumbers.{LaysExactly, Writes, WriteRead, ReadWrite, MoreBehind, SomeByte}
+use Rattle.claims.specs.OfLists.{WritesLists}
+use Rattle.words.proofs.OneMeaning.{same-written, apart, refused-same}
+use Rattle.claims.proofs.Readers.{reading-of, number-says, read-number}
+
+-- what is promised of a write, by its room
+module _ (bytes s : List ℕ) (at : ℕ) (r : Written) (out : List ℕ) (w : Lays bytes s at r out) where
+  fits : at + length bytes ≤ length s → (r ≡ W.Bytes (record { 0 = length bytes })) × (out ≡ take at s ++ bytes ++ drop (at + length bytes) s)
+  unfolding writing laid
+  fits h =
+      let t = le-leb (at + length bytes) (length s) h in
+      (same-written r (W.Bytes (record { 0 = length bytes })) (w .answer ∙ rw t), w .leaves ∙ rw t)
+
+  no-room : length s < at + length bytes → (r ≡ W.Refused NoRoom) × (out ≡ s)
+  unfolding writing laid
+  no-room h =
+      let t = lt-leb (at + length bytes) (length s) h in
+      (same-written r (W.Refused NoRoom) (w .answer ∙ rw t), w .leaves ∙ rw t)
+
+  bytes-fit : (n : Count) → r ≡ W.Bytes n → (at + length bytes ≤ length s) × (n .0 ≡ length bytes)
+  bytes-fit n e =
+      by-order (length s) (at + length bytes)
+      (λ h. apart (ap meansWritten (sym e ∙ no-room h .0)))
+      (λ h. let q : gives (n .0) ≡ gives (length bytes) = ap meansWritten (sym e ∙ fits h .0) in (h, cc))
+
+  kept : length out ≡ length s
+  kept =
+      by-order (length s) (at + length bytes) (λ h. ap length (no-room h .1))
+      (λ h.
+      ap length (fits h .1)
+      ∙ simp (length-append, length-drop, length-take-le at s (omega arith)) (omega arith))
+
+  exactly : LaysExactly bytes s at r out
+  exactly = (
+    (fits, λ p. bytes-fit _ (p .0) .0),
+    (no-room, λ p. by-order (length s) (at + length bytes) (λ h. h) (λ h. apart (ap meansWritten (sym (fits h .0) ∙ p .0)))),
+    kept,
+  )
+
+-- each writer lays its form down
+pub lays : (k : Reader) (v : Value k) {s out : List ℕ} {at : ℕ} {r : Written} → Laying k v s at r out → Lays (form k v) s at r out
+lays loop64 v p = p
+lays recursive64 v p = p
+lays unsigned32 v p = p
+lays signed64 v p = p
+
+-- 3
+pub writes : (k : Reader) → Writes k
+writes k v before at r after p = exactly (form k v) before at r after (lays k v p)
+
+-- a list no longer than the limit is laid down as one number's form is
+lays-list : (ns s : List ℕ) (at : ℕ) (r : Written) (out : List ℕ) → WritesList ns s at r out → length ns ≤ list-limit → Lays (forms ns) s at r out
+lays-list ns s at r out w h =
+    let t = le-ltb list-limit (length ns) h in
+    record { answer = w .answer ∙ rw t; leaves = w .leaves ∙ rw t }
+
+pub writes-list : WritesLists
+writes-list ns before at r after w = (
+  (
+    λ h. let t = lt-ltb list-limit (length ns) h in
+        (same-written r (W.Refused TooLong) (w .answer ∙ rw t), w .leaves ∙ rw t),
+    λ e. by-order list-limit (length ns) (λ h. h) (λ h. absurd (never (e .0) (lays-list ns before at r after w h))),
+  ),
+  λ h. exactly (forms ns) before at r after (lays-list ns before at r after w h),
+)
+  where
+    never : r ≡ W.Refused TooLong → Lays (forms ns) before at r after → ⊥
+    never e l =
+        by-order (length before) (at + length (forms ns))
+        (λ h. let z = refused-same NoRoom TooLong (ap meansWritten (sym (no-room (forms ns) before at r after l h .0) ∙ e)) in let q : _≡_ {A = ℕ} 5 7 = ap numberOf z in absurd (omega arith))
+        (λ h. apart (ap meansWritten (sym (fits (forms ns) before at r after l h .0) ∙ e)))
+
+-- 7
+pub write-read : (k : Reader) → WriteRead k
+write-read k v before at n after r of-width p q =
+    let b = bytes-fit (form k v) before at (W.Bytes n) after (lays k v p) n refl in
+    let e = fits (form k v) before at (W.Bytes n) after (lays k v p) (b .0) .1 in
+    let rest = drop (at + length (form k v)) before in
+    let t : length (take at before) ≡ at = length-take-le at before (omega (arith, b .0)) in
+    read-number k after at r v n q (reading-of k .begun after at v (n .0) (record {
+      here = rw (e, append-assoc, length-append, t) (omega arith);
+      of-width = of-width;
+      rest = rest;
+      begins = rw (e, append-assoc) (drop-at (take at before) (form k v ++ rest) at t);
+      count = b .1;
+    }))
+
+module _ (k : Reader) (s : List ℕ) (at : ℕ) (v : Value k) (n : Count) (bytes : Bytes s) (p : Promised k s at (number k v n)) where
+  stands : Begins (form k) (OfWidth k) s at v (n .0)
+  stands = reading-of k .begins s at v (n .0) bytes (number-says k s at v n .0 p)
+
+  taken : at + length (form k v) ≤ length s
+  taken =
+      let e : length s - at ≡ length (form k v) + length (stands .rest) =
+      sym (length-drop at s) ∙ ap length (stands .begins) ∙ length-append (form k v) (stands .rest) in
+      omega (arith, stands .here)
+
+  put-back : take at s ++ form k v ++ drop (at + length (form k v)) s ≡ s
+  put-back =
+      let e : drop (at + length (form k v)) s ≡ stands .rest =
+      sym (drop-drop (length (form k v)) at s) ∙ ap (drop (length (form k v))) (stands .begins) ∙ drop-append-seam (form k v) (stands .rest) in
+      rw (e, append-assoc, ← (stands .begins), take-append-drop)
+
+  behind : (more : List ℕ) → Begins (form k) (OfWidth k) (s ++ more) at v (n .0)
+  behind more = record {
+    here = rw length-append (omega (arith, stands .here));
+    of-width = stands .of-width;
+    rest = stands .rest ++ more;
+    begins = drop-append-le at s more (stands .here) ∙ rw (stands .begins) (append-assoc (form k v) (stands .rest) more);
+    count = stands .count;
+  }
+
+pub read-write : (k : Reader) → ReadWrite k
+read-write k s at v n r after bytes p q =
+    let h = taken k s at v n bytes p in
+    let f = fits (form k v) s at r after (lays k v q) h in
+    (f .0 ∙ ap (λ (m : ℕ). W.Bytes (record { 0 = m })) (sym (stands k s at v n bytes p .count)), f .1 ∙ put-back k s at v n bytes p)
+
+pub more-behind : (k : Reader) → MoreBehind k
+more-behind k s more at v n r bytes p q =
+    read-number k (s ++ more) at r v n q (reading-of k .begun (s ++ more) at v (n .0) (behind k s at v n bytes p more))
+
+pub some-byte : (k : Reader) → ((v : Value k) → 0 < length (form k v)) → SomeByte k
+some-byte k f s at v n bytes p =
+    let c = stands k s at v n bytes p .count in (omega (arith, f v), omega (arith, taken k s at v n bytes p))

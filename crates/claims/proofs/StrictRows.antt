@@ -1,0 +1,72 @@
+-- Each answer of strict reading exactly when its row holds, and the slice afterwards.
+use Prim.Native.Nat.{ℕ, suc, _≤_, _<_}
+use mathlib.Core.Path.{_≡_, refl, ap, sym, _∙_}
+use mathlib.Core.List.{List, _++_}
+use mathlib.Core.Logic.{_↔_}
+use native.Mathlib.Omega.{arith}
+use borrow.Author.Tests.{lt-ltb, le-ltb, lt-leb}
+use lib.ListN.{length, drop}
+use Rattle.words.specs.Answer.{Answer, gives, refused}
+use Rattle.words.specs.Refusal.{numberOf}
+use Rattle.words.specs.declared.Refusal.{Refusal}
+use Rattle.words.specs.declared.Refusal.the-variants.{NoRoom, TooLong}
+use Rattle.words.proofs.Cases.{by-order}
+use Rattle.groups.specs.Group.{Bytes}
+use Rattle.blocks.specs.Block.{block-limit}
+use Rattle.lists.specs.Strict.{numbers, strict, filled}
+use Rattle.lists.specs.Promise.{ReadsStrict}
+use Rattle.lists.specs.declared.ReadList.{ReadList}
+use Rattle.lists.specs.declared.ReadList.the-variants as L
+use Rattle.claims.specs.OfLists.{FirstFault, StrictRefused, StrictRow}
+use Rattle.claims.specs.OfLists.StrictRefused.{too-long, faulty, no-room}
+use Rattle.claims.proofs.ListBack.{numbers-forms, strictly}
+use Rattle.lists.proofs.OneList.{same-list}
+use Rattle.words.proofs.OneMeaning.{same-both, by-rows}
+use Rattle.claims.proofs.FirstFault.{Outcome, all, broken, outcome, fault-behind}
+
+module _ (s old : List ℕ) where
+  -- where its row holds, an answer with its slice is strict reading's
+  long-row : block-limit < length s → ReadsStrict s old (L.Refused TooLong) old
+  unfolding strict filled
+  long-row h = let t = lt-ltb block-limit (length s) h in record { answer = rw t; leaves = rw t }
+
+  fault-row : (why : Refusal) → length s ≤ block-limit → FirstFault why s → ReadsStrict s old (L.Refused why) old
+  unfolding strict filled
+  fault-row why short k =
+      let t = le-ltb block-limit (length s) short in
+      let e : numbers s ≡ refused (numberOf why) = ap numbers (k .behind) ∙ fault-behind why (k .ns) (k .rest) (k .words) (k .fault) in
+      record { answer = rw (t, e); leaves = rw (t, e) }
+
+  refused-row : (why : Refusal) → StrictRefused s (length old) why → ReadsStrict s old (L.Refused why) old
+  unfolding strict filled
+  refused-row _ (too-long h) = long-row h
+  refused-row why (faulty short k) = fault-row why short k
+  refused-row _ (no-room short ns k h) =
+      let t = le-ltb block-limit (length s) short in
+      let e : numbers s ≡ gives ns = ap numbers (k .0) ∙ numbers-forms ns (k .1) in
+      let f = lt-leb (length ns) (length old) h in
+      record { answer = rw (t, e, f); leaves = rw (t, e, f) }
+
+  pub row-reads : (x : ReadList × List ℕ) → StrictRow s old (x .0) (x .1) → ReadsStrict s old (x .0) (x .1)
+  row-reads (L.Refused why, out) h = rw (h .1) (refused-row why (h .0))
+  row-reads (L.Filled n, out) h =
+      let ns = h .1 in
+      let q = strictly s ns old (h .0) (ap numbers (h .2 .0) ∙ numbers-forms ns (h .2 .1)) (h .3) in
+      record { answer = rw (h .4) (sym (q .0)); leaves = h .5 ∙ sym (q .1) }
+
+  -- one of the rows holds
+  by-outcome : {a : Answer (List ℕ)} → length s ≤ block-limit → Outcome s a → (x : ReadList × List ℕ) × StrictRow s old (x .0) (x .1)
+  by-outcome short (broken why k) = ((L.Refused why, old), (faulty short k, refl))
+  by-outcome short (all ns k) =
+      by-order (length old) (length ns) (λ h. ((L.Refused NoRoom, old), (no-room short ns k h, refl)))
+      (λ h. ((L.Filled (record { 0 = length ns }), ns ++ drop (length ns) old), (short, ns, k, h, refl, refl)))
+
+  pub row-found : Bytes s → (x : ReadList × List ℕ) × StrictRow s old (x .0) (x .1)
+  row-found bytes =
+      by-order block-limit (length s) (λ h. ((L.Refused TooLong, old), (too-long h, refl)))
+      (λ short. by-outcome short (outcome (suc (length s)) s (omega arith) bytes))
+
+  pub strict-rows : (r : ReadList) (out : List ℕ) → Bytes s → ReadsStrict s old r out ↔ StrictRow s old r out
+  strict-rows r out bytes =
+      by-rows {R = ReadList × List ℕ} {Promise = λ x. ReadsStrict s old (x .0) (x .1)} {Row = λ x. StrictRow s old (x .0) (x .1)}
+      (λ x y a b. same-both (same-list (x .0) (y .0) (a .answer ∙ sym (b .answer))) (a .leaves ∙ sym (b .leaves))) row-reads (row-found bytes) (r, out)
