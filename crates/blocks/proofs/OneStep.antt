@@ -13,6 +13,7 @@ use Rattle.blocks.specs.declared.Value.{Value}
 use Rattle.blocks.specs.declared.Value.the-variants as N
 use Rattle.blocks.specs.declared.SetDown.{SetDown}
 use Rattle.blocks.specs.declared.SetDown.the-variants as D
+use Rattle.words.specs.Answer.{numberIn}
 use Rattle.words.proofs.OneMeaning.{same-by, back}
 
 pub same-step : (r r′ : Step) → meansStep r ≡ meansStep r′ → r ≡ r′
@@ -28,10 +29,10 @@ same-step = same-by meansStep back is
 
     back : Stepped → Step
     back (number v n p) = S.Number (value v) (record { 0 = n }) (record { place = record { 0 = p } })
-    back (gap k n p) = S.Gap (refusalOf k) (record { 0 = n }) (record { place = record { 0 = p } })
+    back (gap k n p) = S.Gap (refusalOf (numberIn k)) (record { 0 = n }) (record { place = record { 0 = p } })
     back (tail n p) = S.Tail (record { 0 = n }) (record { place = record { 0 = p } })
     back (finished p) = S.Finished (record { place = record { 0 = p } })
-    back (refuses k) = S.Refused (refusalOf k)
+    back (refuses k) = S.Refused (refusalOf (numberIn k))
 
     is : (r : Step) → back (meansStep r) ≡ r
     is (S.Number v n c) = rw (value-is v)

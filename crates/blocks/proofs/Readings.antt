@@ -10,8 +10,7 @@ use mathlib.Core.List.{List, [], _∷_}
 use mathlib.Core.Logic.{_↔_}
 use native.Mathlib.Omega.{arith}
 use lib.ListN.{length, drop}
-use Rattle.words.specs.Answer.{Answer, gives, refused}
-use Rattle.words.specs.Refusal.{numberOf}
+use Rattle.words.specs.Answer.{Answer, gives, refused, because}
 use Rattle.words.specs.declared.Refusal.{Refusal}
 use Rattle.blocks.specs.Block.{Val, readBy}
 use Rattle.blocks.specs.Promise.{meansValue}
@@ -52,7 +51,7 @@ module _ (f : ℕ → Rule) (s : List ℕ) where
     all-given p _ k (at-number _ v n c l a rest) =
         one-given p (n .0) (c .place .0) (gives (meansValue v)) l (step-rows (f p) s p (S.Number v n c) (block .bytes) .0 a .1) (λ j. all-given (c .place .0) l j rest)
     all-given p _ k (at-gap _ why n c l a rest) =
-        one-given p (n .0) (c .place .0) (refused (numberOf why)) l (step-rows (f p) s p (S.Gap why n c) (block .bytes) .0 a .1) (λ j. all-given (c .place .0) l j rest)
+        one-given p (n .0) (c .place .0) (refused (because why)) l (step-rows (f p) s p (S.Gap why n c) (block .bytes) .0 a .1) (λ j. all-given (c .place .0) l j rest)
 
     -- from a start a step does not refuse
     no-refusal : (p : ℕ) → Start s p → (why : Refusal) → StepRefused s p why → ⊥
@@ -75,7 +74,7 @@ module _ (f : ℕ → Rule) (s : List ℕ) where
     ends-by p k ih (S.Gap why n c) row =
         let q = c .place .0 in
         let b = further (row .1) in
-        subst (ReaderGives f s p) (one-given p (n .0) q (refused (numberOf why)) (from-here q) (row .1) (λ j. refl))
+        subst (ReaderGives f s p) (one-given p (n .0) q (refused (because why)) (from-here q) (row .1) (λ j. refl))
         (at-gap p why n c (from-here q) (step-row-kept (f p) s p (S.Gap why n c) row) (ih q (b .0) (b .1)))
 
     ends : (n p : ℕ) → length s - p < n → Start s p → ReaderGives f s p (from-here p)

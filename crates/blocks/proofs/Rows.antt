@@ -9,7 +9,7 @@ use lib.ListN.{length, take, drop, length-drop}
 use lib.Seq.{length-take-le}
 use Rattle.words.specs.Answer.{Answer, gives}
 use Rattle.words.specs.declared.Count.{Count}
-use Rattle.words.specs.declared.Refusal.the-variants as Why
+use Rattle.words.specs.declared.Refusal.the-variants.{TooLong, Place, NotAStart, NoStart}
 use Rattle.groups.specs.Group.{run}
 use Rattle.groups.proofs.Run.{run-within}
 use Rattle.blocks.specs.Block.{block-limit, isStart, Val, finished, readBy, says, saysBy, stepping, settingDown}
@@ -21,12 +21,12 @@ use Rattle.blocks.specs.declared.Step.the-variants as S
 use Rattle.blocks.specs.declared.SetDown.the-variants as D
 
 module _ (rule : Rule) (s : List ℕ) (p : ℕ) where
-  pub step-too-long : block-limit < length s → Steps rule s p (S.Refused Why.TooLong)
+  pub step-too-long : block-limit < length s → Steps rule s p (S.Refused TooLong)
   unfolding stepping
   step-too-long h = record { is = rw (lt-ltb block-limit (length s) h) }
 
   module _ (fits : length s ≤ block-limit) where
-    pub step-past : length s < p → Steps rule s p (S.Refused Why.Place)
+    pub step-past : length s < p → Steps rule s p (S.Refused Place)
     unfolding stepping
     step-past h = record { is = rw (le-ltb block-limit (length s) fits, lt-ltb (length s) p h) }
 
@@ -35,7 +35,7 @@ module _ (rule : Rule) (s : List ℕ) (p : ℕ) where
     step-finished c e h l = record { is = rw (le-ltb block-limit (length s) fits, le-ltb (length s) p h, le-leb (length s) p l) (ap finished e) }
 
     module _ (here : p < length s) where
-      pub step-not-a-start : isStart s p ≡ false → Steps rule s p (S.Refused Why.NotAStart)
+      pub step-not-a-start : isStart s p ≡ false → Steps rule s p (S.Refused NotAStart)
       unfolding stepping
       step-not-a-start e =
           record { is = rw (le-ltb block-limit (length s) fits, le-ltb (length s) p (omega arith), lt-leb (length s) p here, e) }
@@ -77,12 +77,12 @@ module _ (rule : Rule) (s : List ℕ) (p : ℕ) where
             record { is = q ∙ ap (λ (i : ℕ). says a i p) (c ∙ sym size) ∙ ap (λ (b : Answer Val). says b (length (take (run (drop p s) + 1) (drop p s))) p) e ∙ sym (step-says h) }
 
 module _ (s : List ℕ) (p : ℕ) where
-  pub set-too-long : block-limit < length s → SetsDown s p (D.Refused Why.TooLong)
+  pub set-too-long : block-limit < length s → SetsDown s p (D.Refused TooLong)
   unfolding settingDown
   set-too-long h = record { is = rw (lt-ltb block-limit (length s) h) }
 
   module _ (fits : length s ≤ block-limit) where
-    pub set-past : length s < p → SetsDown s p (D.Refused Why.Place)
+    pub set-past : length s < p → SetsDown s p (D.Refused Place)
     unfolding settingDown
     set-past h = record { is = rw (le-ltb block-limit (length s) fits, lt-ltb (length s) p h) }
 
@@ -102,7 +102,7 @@ module _ (s : List ℕ) (p : ℕ) where
                   rw (le-ltb block-limit (length s) fits, le-ltb (length s) p here, ne-eqb p 0 (λ z. omega arith), lt-ltb _ (length s) h) (ap gives e);
             }
 
-        pub set-none : length s ≤ p - 1 + run (drop (p - 1) s) → SetsDown s p (D.Refused Why.NoStart)
+        pub set-none : length s ≤ p - 1 + run (drop (p - 1) s) → SetsDown s p (D.Refused NoStart)
         unfolding settingDown
         set-none h =
             record {

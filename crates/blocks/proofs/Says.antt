@@ -9,7 +9,7 @@ use mathlib.Core.List.{List}
 use native.Mathlib.Omega.{arith}
 use lib.ListN.{length, take, drop, length-drop}
 use lib.Seq.{getD-drop}
-use Rattle.words.specs.Answer.{Answer, gives, refused}
+use Rattle.words.specs.Answer.{Answer, gives, refused, Why}
 use Rattle.groups.specs.Group.{Bytes, run}
 use Rattle.groups.specs.Width.{Width, reading, read}
 use Rattle.groups.proofs.Rows.{read-from}
@@ -36,5 +36,5 @@ module _ {a : Answer Val} {n q : ℕ} (p : ℕ) (past : q ≡ p + n) where
   pub said-number : {v : Val} → a ≡ gives v → number v n q ≡ says a n p
   said-number e = rw (e, past)
 
-  pub said-gap : {k : ℕ} → a ≡ refused k → gap k n q ≡ says a n p
+  pub said-gap : {k : Why} → a ≡ refused k → gap k n q ≡ says a n p
   said-gap e = rw (e, past)

@@ -8,8 +8,7 @@ use mathlib.Core.List.{List}
 use mathlib.Core.Logic.{_↔_}
 use native.Mathlib.Omega.{arith}
 use lib.ListN.{length, drop, length-drop}
-use Rattle.words.specs.Answer.{Answer, gives, refused}
-use Rattle.words.specs.Refusal.{numberOf}
+use Rattle.words.specs.Answer.{Answer, gives, refused, because}
 use Rattle.words.specs.declared.Count.{Count}
 use Rattle.words.specs.declared.Refusal.{Refusal}
 use Rattle.words.specs.declared.Refusal.the-variants.{Place, NotAStart, TooLong}
@@ -70,12 +69,12 @@ module _ (rule : Rule) (s : List ℕ) (p : ℕ) where
       let k : GroupReads rule s p (gives (meansValue v)) (n .0) (c .place .0) = h .1 in
       record { is = said k ∙ says-group (k .group) (h .0) (k .stands) }
   step-row-kept (S.Gap why n c) h =
-      let k : GroupReads rule s p (refused (numberOf why)) (n .0) (c .place .0) = h .1 in
+      let k : GroupReads rule s p (refused (because why)) (n .0) (c .place .0) = h .1 in
       record { is = said k ∙ says-group (k .group) (h .0) (k .stands) }
 
 -- a group's reading is one that an answer can tell
 heard : {A X : Type 0} (f : A → Val) (w : Width A) (g : List ℕ) → ((v : A) → valued f (reading w g) ≡ gives (f v) → X)
-    → ((why : Refusal) → valued f (reading w g) ≡ refused (numberOf why) → X) → X
+    → ((why : Refusal) → valued f (reading w g) ≡ refused (because why) → X) → X
 heard f w g value fault = reading-cases w g (λ v n e. value v (ap (valued f) e)) (λ why e. fault why (ap (valued f) e))
 
 abbrev count : ℕ → Count
@@ -91,10 +90,10 @@ module _ (s : List ℕ) (p : ℕ) (f : length s ≤ block-limit) (g : List ℕ) 
   group-row : (rule : Rule) → (r : Step) × StepRow rule s p r
   group-row Unsigned =
       heard unsigned u64 g (λ v e. (S.Number (N.Unsigned v) (count (length g)) (cursor (p + length g)), (f, reads Unsigned (gives (unsigned v)) e)))
-      (λ why e. (S.Gap why (count (length g)) (cursor (p + length g)), (f, reads Unsigned (refused (numberOf why)) e)))
+      (λ why e. (S.Gap why (count (length g)) (cursor (p + length g)), (f, reads Unsigned (refused (because why)) e)))
   group-row Signed =
       heard signed i64 g (λ v e. (S.Number (N.Signed v) (count (length g)) (cursor (p + length g)), (f, reads Signed (gives (signed v)) e)))
-      (λ why e. (S.Gap why (count (length g)) (cursor (p + length g)), (f, reads Signed (refused (numberOf why)) e)))
+      (λ why e. (S.Gap why (count (length g)) (cursor (p + length g)), (f, reads Signed (refused (because why)) e)))
 
 -- one of the rows holds
 module _ (rule : Rule) (s : List ℕ) (p : ℕ) where

@@ -14,7 +14,7 @@ use mathlib.Core.Bool.{Bool, not}
 use lib.Dec.{leb, ltb, eqb}
 use lib.IntN.{ℤ}
 use lib.ListN.{length, getD, take, drop}
-use Rattle.words.specs.Answer.{pick, Answer, gives, refused, either}
+use Rattle.words.specs.Answer.{pick, Answer, gives, refused, either, by, Why}
 use Rattle.groups.specs.Group.{run}
 use Rattle.groups.specs.Width.{reading}
 use Rattle.uleb128.specs.Unsigned.{u64}
@@ -34,10 +34,10 @@ pub data Val : Type 0 where
 
 pub data Stepped : Type 0 where
   number : Val → ℕ → ℕ → Stepped
-  gap : ℕ → ℕ → ℕ → Stepped
+  gap : Why → ℕ → ℕ → Stepped
   tail : ℕ → ℕ → Stepped
   finished : ℕ → Stepped
-  refuses : ℕ → Stepped
+  refuses : Why → Stepped
 
 -- the reading of a group by a rule: its number, or the reason why it has none
 abbrev pub valued : {A : Type 0} → (A → Val) → Answer (A × ℕ) → Answer Val
@@ -58,16 +58,16 @@ saysBy rule g p = says (readBy rule g) (length g) p
 
 unfoldable pub stepping : Rule → List ℕ → ℕ → Stepped
 stepping rule s p =
-    pick (ltb block-limit (length s)) (refuses 7)
-    (pick (ltb (length s) p) (refuses 4)
+    pick (ltb block-limit (length s)) (refuses (by 7))
+    (pick (ltb (length s) p) (refuses (by 4))
     (pick (leb (length s) p) (finished p)
-    (pick (not (isStart s p)) (refuses 6)
+    (pick (not (isStart s p)) (refuses (by 6))
     (pick (eqb (run (drop p s)) (length (drop p s))) (tail (run (drop p s)) p)
     (saysBy rule (take (run (drop p s) + 1) (drop p s)) p)))))
 
 unfoldable pub settingDown : List ℕ → ℕ → Answer ℕ
 settingDown s p =
-    pick (ltb block-limit (length s)) (refused 7)
-    (pick (ltb (length s) p) (refused 4)
+    pick (ltb block-limit (length s)) (refused (by 7))
+    (pick (ltb (length s) p) (refused (by 4))
     (pick (eqb p 0) (gives 0)
-    (pick (ltb (p - 1 + run (drop (p - 1) s)) (length s)) (gives (p + run (drop (p - 1) s))) (refused 8))))
+    (pick (ltb (p - 1 + run (drop (p - 1) s)) (length s)) (gives (p + run (drop (p - 1) s))) (refused (by 8)))))

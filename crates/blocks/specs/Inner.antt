@@ -6,8 +6,7 @@
 use Prim.Native.Nat.{ℕ}
 use mathlib.Core.List.{List}
 use mathlib.Core.Path.{_≡_}
-use Rattle.words.specs.Answer.{Answer, gives, refused}
-use Rattle.words.specs.Refusal.{numberOf}
+use Rattle.words.specs.Answer.{Answer, gives, refused, because}
 use Rattle.groups.specs.Width.{read}
 use Rattle.uleb128.specs.Unsigned.{u64}
 use Rattle.sleb128.specs.Signed.{i64}
@@ -20,7 +19,7 @@ use Rattle.blocks.specs.declared.Rule.the-variants.{Unsigned, Signed}
 
 abbrev pub meansReading : Reading → Answer Val
 meansReading (G.Number v) = gives (meansValue v)
-meansReading (G.Fault why) = refused (numberOf why)
+meansReading (G.Fault why) = refused (because why)
 
 abbrev pub read-by : Rule → List ℕ → ℕ → Answer Val
 read-by Unsigned s p = valued unsigned (read u64 s p)

@@ -7,8 +7,7 @@
 use Prim.Native.Nat.{ℕ}
 use mathlib.Core.List.{List}
 use mathlib.Core.Path.{_≡_}
-use Rattle.words.specs.Answer.{Answer, gives, refused}
-use Rattle.words.specs.Refusal.{numberOf}
+use Rattle.words.specs.Answer.{Answer, gives, refused, because}
 use Rattle.blocks.specs.Block.{Val, unsigned, signed, Stepped, number, gap, tail, finished, refuses, stepping, settingDown}
 use Rattle.blocks.specs.declared.Rule.{Rule}
 use Rattle.blocks.specs.declared.Value.{Value}
@@ -24,14 +23,14 @@ meansValue (N.Signed v) = signed v
 
 abbrev pub meansStep : Step → Stepped
 meansStep (S.Number v n c) = number (meansValue v) (n .0) (c .place .0)
-meansStep (S.Gap why n c) = gap (numberOf why) (n .0) (c .place .0)
+meansStep (S.Gap why n c) = gap (because why) (n .0) (c .place .0)
 meansStep (S.Tail n c) = tail (n .0) (c .place .0)
 meansStep (S.Finished c) = finished (c .place .0)
-meansStep (S.Refused why) = refuses (numberOf why)
+meansStep (S.Refused why) = refuses (because why)
 
 abbrev pub meansSetDown : SetDown → Answer ℕ
 meansSetDown (D.At c) = gives (c .place .0)
-meansSetDown (D.Refused why) = refused (numberOf why)
+meansSetDown (D.Refused why) = refused (because why)
 
 pub record Steps (rule : Rule) (s : List ℕ) (p : ℕ) (r : Step) : Type 0 where
   pub is : meansStep r ≡ stepping rule s p

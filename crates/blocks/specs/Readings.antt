@@ -7,8 +7,7 @@
 use Prim.Native.Nat.{ℕ, _≤_}
 use mathlib.Core.List.{List, [], _∷_}
 use lib.ListN.{length}
-use Rattle.words.specs.Answer.{Answer, gives, refused}
-use Rattle.words.specs.Refusal.{numberOf}
+use Rattle.words.specs.Answer.{Answer, gives, refused, because}
 use Rattle.words.specs.declared.Count.{Count}
 use Rattle.words.specs.declared.Refusal.{Refusal}
 use Rattle.groups.specs.Group.{Bytes}
@@ -33,4 +32,4 @@ pub data ReaderGives (f : ℕ → Rule) (s : List ℕ) : ℕ → List (ℕ × �
   at-number : (p : ℕ) (v : Value) (n : Count) (c : Cursor) (l : List (ℕ × ℕ × Answer Val))
       → Steps (f p) s p (S.Number v n c) → ReaderGives f s (c .place .0) l → ReaderGives f s p ((p, n .0, gives (meansValue v)) ∷ l)
   at-gap : (p : ℕ) (why : Refusal) (n : Count) (c : Cursor) (l : List (ℕ × ℕ × Answer Val))
-      → Steps (f p) s p (S.Gap why n c) → ReaderGives f s (c .place .0) l → ReaderGives f s p ((p, n .0, refused (numberOf why)) ∷ l)
+      → Steps (f p) s p (S.Gap why n c) → ReaderGives f s (c .place .0) l → ReaderGives f s p ((p, n .0, refused (because why)) ∷ l)

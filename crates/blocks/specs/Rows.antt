@@ -8,8 +8,7 @@ use Prim.Native.Nat.{ℕ, _+_, _≤_, _<_}
 use mathlib.Core.Path.{_≡_}
 use mathlib.Core.List.{List}
 use lib.ListN.{length}
-use Rattle.words.specs.Answer.{Answer, gives, refused}
-use Rattle.words.specs.Refusal.{numberOf}
+use Rattle.words.specs.Answer.{Answer, gives, refused, because}
 use Rattle.words.specs.declared.Refusal.{Refusal}
 use Rattle.words.specs.declared.Refusal.the-variants.{Place, NotAStart, TooLong, NoStart}
 use Rattle.blocks.specs.Block.{block-limit, Val, readBy}
@@ -36,7 +35,7 @@ pub data StepRefused (s : List ℕ) (p : ℕ) : Refusal → Type 0 where
 
 abbrev pub StepRow : Rule → List ℕ → ℕ → Step → Type 0
 StepRow rule s p (S.Number v n c) = (length s ≤ block-limit) × GroupReads rule s p (gives (meansValue v)) (n .0) (c .place .0)
-StepRow rule s p (S.Gap why n c) = (length s ≤ block-limit) × GroupReads rule s p (refused (numberOf why)) (n .0) (c .place .0)
+StepRow rule s p (S.Gap why n c) = (length s ≤ block-limit) × GroupReads rule s p (refused (because why)) (n .0) (c .place .0)
 StepRow rule s p (S.Tail n c) = (length s ≤ block-limit) × TailAt s p × (p + n .0 ≡ length s) × (c .place .0 ≡ p)
 StepRow rule s p (S.Finished c) = (length s ≤ block-limit) × (p ≡ length s) × (c .place .0 ≡ p)
 StepRow rule s p (S.Refused why) = StepRefused s p why

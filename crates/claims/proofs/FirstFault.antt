@@ -9,8 +9,7 @@ use mathlib.Core.Logic.{⊎-elim}
 use native.Mathlib.Omega.{arith}
 use lib.ListN.{length, take, drop, length-append, length-drop, take-append-drop}
 use lib.Seq.{take-append-seam, getD-drop}
-use Rattle.words.specs.Answer.{Answer, gives, refused}
-use Rattle.words.specs.Refusal.{numberOf}
+use Rattle.words.specs.Answer.{Answer, gives, refused, by, because}
 use Rattle.words.specs.declared.Refusal.{Refusal}
 use Rattle.words.specs.declared.Refusal.the-variants.{End}
 use Rattle.words.proofs.Cases.{by-order}
@@ -35,7 +34,7 @@ use Rattle.claims.proofs.TableRows.{row-refused}
 -- a group is the form of a number, or a gap
 data Sorted (g : List ℕ) : Type 0 where
   number : (v : ℕ) → v < 2 ^ 64 → g ≡ form v → Sorted g
-  gap : (why : Refusal) → reading u64 g ≡ refused (numberOf why) → GapRow u64 g why → Sorted g
+  gap : (why : Refusal) → reading u64 g ≡ refused (because why) → GapRow u64 g why → Sorted g
 
 sorted : (g : List ℕ) → Group g → Sorted g
 sorted g k =
@@ -52,7 +51,7 @@ sorted g k =
 -- what the numbers of a block say of it
 pub data Outcome (s : List ℕ) : Answer (List ℕ) → Type 0 where
   all : (ns : List ℕ) → IsForms s ns → Outcome s (gives ns)
-  broken : (why : Refusal) → FirstFault why s → Outcome s (refused (numberOf why))
+  broken : (why : Refusal) → FirstFault why s → Outcome s (refused (because why))
 
 ahead : (v : ℕ) (s rest : List ℕ) (a : Answer (List ℕ)) → v < 2 ^ 64 → s ≡ form v ++ rest → Outcome rest a → Outcome s (joined (gives (v, length (form v))) a)
 unfolding forms
@@ -106,21 +105,21 @@ outcome (suc n) s h bytes =
     (λ none. rw (numbers-none s (omega arith)) (all [] (empty s (omega arith), tt))))
 
 -- and back: a first fault is what the numbers say
-gap-refused : (why : Refusal) (g rest : List ℕ) → Group g → GapRow u64 g why → numbers (g ++ rest) ≡ refused (numberOf why)
+gap-refused : (why : Refusal) (g rest : List ℕ) → Group g → GapRow u64 g why → numbers (g ++ rest) ≡ refused (because why)
 gap-refused why g rest k row =
     let r : run (g ++ rest) + 1 ≡ length g = omega (arith, run-behind rest k, group-length k) in
     let t : take (run (g ++ rest) + 1) (g ++ rest) ≡ g = rw r (take-append-seam g rest) in
     numbers-group (g ++ rest) (rw length-append (omega (arith, r))) ∙ rw (t, read-group loop64 g k .gap why .1 row)
 
-tail-refused : (rest : List ℕ) → 0 < length rest → High rest → numbers rest ≡ refused 1
+tail-refused : (rest : List ℕ) → 0 < length rest → High rest → numbers rest ≡ refused (by 1)
 tail-refused rest some high =
     numbers-tail rest (all-high rest high) some
 
-faulty : (why : Refusal) (rest : List ℕ) → Fault rest why → numbers rest ≡ refused (numberOf why)
+faulty : (why : Refusal) (rest : List ℕ) → Fault rest why → numbers rest ≡ refused (because why)
 faulty why rest (Fault.gap g more e k row) = ap numbers e ∙ gap-refused why g more k row
 faulty _ rest (Fault.tail some high) = tail-refused rest some high
 
-pub fault-behind : (why : Refusal) (ns rest : List ℕ) → Of64Bits ns → Fault rest why → numbers (forms ns ++ rest) ≡ refused (numberOf why)
+pub fault-behind : (why : Refusal) (ns rest : List ℕ) → Of64Bits ns → Fault rest why → numbers (forms ns ++ rest) ≡ refused (because why)
 unfolding forms
 fault-behind why [] rest w k = faulty why rest k
 fault-behind why (v ∷ ns) rest w k =

@@ -7,8 +7,7 @@ use native.Mathlib.Omega.{arith}
 use lib.Dec.{leb→le, le→leb, lt→ltb, ltb→lt}
 use lib.IntN.{ℤ, pos, negsuc, negℤ}
 use lib.Signed.{mag, _≤ℤ_, _<ℤ_}
-use Rattle.words.specs.Answer.{Answer, gives, refused}
-use Rattle.words.specs.Refusal.{numberOf}
+use Rattle.words.specs.Answer.{Answer, gives, refused, because}
 use Rattle.words.specs.declared.Count.{Count}
 use Rattle.words.specs.declared.Refusal.{Refusal}
 use Rattle.groups.specs.Begins.{Begins}
@@ -82,7 +81,7 @@ number-says recursive64 s at v n = due-is
 number-says unsigned32 s at v n = due-is
 number-says signed64 s at v n = due-is
 
-pub refusal-says : (k : Reader) (s : List ℕ) (at : ℕ) (why : Refusal) → Promised k s at (refuse k why) ↔ (read (width k) s at ≡ refused (numberOf why))
+pub refusal-says : (k : Reader) (s : List ℕ) (at : ℕ) (why : Refusal) → Promised k s at (refuse k why) ↔ (read (width k) s at ≡ refused (because why))
 refusal-says loop64 s at why = due-is
 refusal-says recursive64 s at why = due-is
 refusal-says unsigned32 s at why = due-is
@@ -91,7 +90,7 @@ refusal-says signed64 s at why = due-is
 -- an answer that a reader promises is one of its numbers or of its refusals, and what is read says the same
 pub reply-cases : {X : Type 0} (k : Reader) (s : List ℕ) (at : ℕ) (r : Reply k) → Promised k s at r
     → ((v : Value k) (n : Count) → r ≡ number k v n → read (width k) s at ≡ gives (v, n .0) → X)
-    → ((why : Refusal) → r ≡ refuse k why → read (width k) s at ≡ refused (numberOf why) → X) → X
+    → ((why : Refusal) → r ≡ refuse k why → read (width k) s at ≡ refused (because why) → X) → X
 reply-cases loop64 s at (R64.Number v n) p value fault = value v n refl (sym (p .is))
 reply-cases loop64 s at (R64.Refused why) p value fault = fault why refl (sym (p .is))
 reply-cases recursive64 s at (R64.Number v n) p value fault = value v n refl (sym (p .is))
@@ -106,7 +105,7 @@ module _ (k : Reader) (s : List ℕ) (at : ℕ) where
   pub number-read : (r : Reply k) (v : Value k) (n : Count) → r ≡ number k v n → Promised k s at r → read (width k) s at ≡ gives (v, n .0)
   number-read r v n e p = number-says k s at v n .0 (subst (Promised k s at) e p)
 
-  pub refusal-read : (r : Reply k) (why : Refusal) → r ≡ refuse k why → Promised k s at r → read (width k) s at ≡ refused (numberOf why)
+  pub refusal-read : (r : Reply k) (why : Refusal) → r ≡ refuse k why → Promised k s at r → read (width k) s at ≡ refused (because why)
   refusal-read r why e p = refusal-says k s at why .0 (subst (Promised k s at) e p)
 
   pub read-number : (r : Reply k) (v : Value k) (n : Count) → Promised k s at r → read (width k) s at ≡ gives (v, n .0) → r ≡ number k v n
@@ -117,7 +116,7 @@ module _ (k : Reader) (s : List ℕ) (at : ℕ) where
       d ∙ ap (λ (x : Value k × ℕ). number k (x .0) (record { 0 = x .1 })) (same-both (given-value q) (given-count q)))
       (λ why d i. apart (sym e ∙ i))
 
-  pub read-refusal : (r : Reply k) (why : Refusal) → Promised k s at r → read (width k) s at ≡ refused (numberOf why) → r ≡ refuse k why
+  pub read-refusal : (r : Reply k) (why : Refusal) → Promised k s at r → read (width k) s at ≡ refused (because why) → r ≡ refuse k why
   read-refusal r why p e =
       reply-cases k s at r p (λ v n d i. apart (sym i ∙ e))
       (λ a d i. d ∙ ap (refuse k) (refused-same a why (sym i ∙ e)))
@@ -135,7 +134,7 @@ accepts k s at r bytes p v n = (
 )
 
 -- 2
-pub read-row : (k : Reader) → (s : List ℕ) (at : ℕ) → Bytes s → (why : Refusal) → read (width k) s at ≡ refused (numberOf why) → Row (width k) s at why
+pub read-row : (k : Reader) → (s : List ℕ) (at : ℕ) → Bytes s → (why : Refusal) → read (width k) s at ≡ refused (because why) → Row (width k) s at why
 read-row k s at bytes why e =
     ⊎-elim (λ (row : (a : Refusal) × Row (width k) s at a).
     subst (Row (width k) s at) (refused-same (row .0) why (sym (row-refused (width k) (reading-of k .sound) (row .0) s at (row .1)) ∙ e)) (row .1))

@@ -11,7 +11,7 @@ use native.Mathlib.Omega.{arith}
 use borrow.Author.Tests.{lt-ltb, le-leb, lt-leb, eq-eqb, ne-eqb, ltb-true, leb-true}
 use lib.Dec.{ltb, leb}
 use lib.ListN.{length}
-use Rattle.words.specs.Answer.{both, Answer, gives, refused}
+use Rattle.words.specs.Answer.{both, Answer, gives, refused, Why}
 use Rattle.words.proofs.Cases.{by-order, by-test, both-true}
 use Rattle.groups.specs.Begins.{Begins}
 use Rattle.groups.specs.Group.{Bytes}
@@ -121,10 +121,10 @@ parse-read s bytes v n = (
 pub parse-same : SpecParse
 parse-same s bytes = (parse-read s bytes, (λ e. by-answer (read u64 s 0) refl e, λ p. by-parse (spec-parse s) refl (p .1)))
   where
-    by-answer : (a : Answer (ℕ × ℕ)) → read u64 s 0 ≡ a → spec-parse s ≡ none → (why : ℕ) × (read u64 s 0 ≡ refused why)
+    by-answer : (a : Answer (ℕ × ℕ)) → read u64 s 0 ≡ a → spec-parse s ≡ none → (why : Why) × (read u64 s 0 ≡ refused why)
     by-answer (gives p) q e = none-some (sym e ∙ parse-read s bytes (p .0) (p .1) .1 q)
     by-answer (refused k) q e = (k, q)
 
-    by-parse : {k : ℕ} (o : Option (ℕ × ℕ)) → spec-parse s ≡ o → read u64 s 0 ≡ refused k → spec-parse s ≡ none
+    by-parse : {k : Why} (o : Option (ℕ × ℕ)) → spec-parse s ≡ o → read u64 s 0 ≡ refused k → spec-parse s ≡ none
     by-parse none q e = q
     by-parse (some p) q e = apart (sym (parse-read s bytes (p .1) (p .0) .0 q) ∙ e)

@@ -6,8 +6,7 @@ use mathlib.Core.Logic.{_↔_}
 use native.Mathlib.Omega.{arith}
 use borrow.Author.Tests.{lt-ltb, le-ltb, lt-leb}
 use lib.ListN.{length, drop}
-use Rattle.words.specs.Answer.{Answer, gives, refused}
-use Rattle.words.specs.Refusal.{numberOf}
+use Rattle.words.specs.Answer.{Answer, gives, refused, because}
 use Rattle.words.specs.declared.Refusal.{Refusal}
 use Rattle.words.specs.declared.Refusal.the-variants.{NoRoom, TooLong}
 use Rattle.words.proofs.Cases.{by-order}
@@ -34,7 +33,7 @@ module _ (s old : List ℕ) where
   unfolding strict filled
   fault-row why short k =
       let t = le-ltb block-limit (length s) short in
-      let e : numbers s ≡ refused (numberOf why) = ap numbers (k .behind) ∙ fault-behind why (k .ns) (k .rest) (k .words) (k .fault) in
+      let e : numbers s ≡ refused (because why) = ap numbers (k .behind) ∙ fault-behind why (k .ns) (k .rest) (k .words) (k .fault) in
       record { answer = rw (t, e); leaves = rw (t, e) }
 
   refused-row : (why : Refusal) → StrictRefused s (length old) why → ReadsStrict s old (L.Refused why) old

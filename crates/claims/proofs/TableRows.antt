@@ -8,8 +8,7 @@ use mathlib.Core.Logic.{_⊎_, inl, inr}
 use native.Mathlib.Omega.{arith}
 use lib.ListN.{length, getD, take, drop, take-append-drop}
 use lib.Seq.{getD-drop}
-use Rattle.words.specs.Answer.{refused}
-use Rattle.words.specs.Refusal.{numberOf}
+use Rattle.words.specs.Answer.{refused, by, because}
 use Rattle.words.specs.declared.Refusal.{Refusal}
 use Rattle.words.specs.declared.Refusal.the-variants.{End, Overflow, NotShortest, Place}
 use Rattle.words.proofs.Cases.{by-order, by-test, clash}
@@ -24,16 +23,16 @@ use Rattle.claims.specs.Table.{EndRow, OverflowRow, NotShortestRow, Row}
 use Rattle.claims.specs.Table.Row.{ends, overflows, not-shortest, past}
 
 module _ {A : Type 0} (w : Width A) (sound : Sound w) where
-  end-refused : (l : List ℕ) → EndRow w l → reading w l ≡ refused 1
+  end-refused : (l : List ℕ) → EndRow w l → reading w l ≡ refused (by 1)
   end-refused l row =
       let h = all-high l (row .high) in row-end w l h (omega (arith, row .fewer))
 
-  overflow-refused : (l : List ℕ) → OverflowRow w l → reading w l ≡ refused 2
+  overflow-refused : (l : List ℕ) → OverflowRow w l → reading w l ≡ refused (by 2)
   overflow-refused l row =
       let h : w .most - 1 ≤ run l = high-run l (w .most - 1) (omega (arith, row .there)) (row .high) in
       row-large w l (row .there) (omega arith) (row .outside)
 
-  not-shortest-refused : (l : List ℕ) → NotShortestRow w l → reading w l ≡ refused 3
+  not-shortest-refused : (l : List ℕ) → NotShortestRow w l → reading w l ≡ refused (by 3)
   not-shortest-refused l row =
       let g = row .group in
       let n : length g ≡ suc (run g) = group-length (row .is-group) in
@@ -44,7 +43,7 @@ module _ {A : Type 0} (w : Width A) (sound : Sound w) where
       let many : tooMany w g ≡ true = too-many w g (omega (arith, row .not-first)) (rw (i, j) at (row .too-many)) in
       ap (reading w) (row .ends) ∙ behind w (row .rest) (row .is-group) ∙ rw (large, many)
 
-  pub row-refused : (why : Refusal) (s : List ℕ) (at : ℕ) → Row w s at why → read w s at ≡ refused (numberOf why)
+  pub row-refused : (why : Refusal) (s : List ℕ) (at : ℕ) → Row w s at why → read w s at ≡ refused (because why)
   row-refused _ s at (ends here row) = read-from w s at here ∙ end-refused (drop at s) row
   row-refused _ s at (overflows here row) = read-from w s at here ∙ overflow-refused (drop at s) row
   row-refused _ s at (not-shortest here row) = read-from w s at here ∙ not-shortest-refused (drop at s) row

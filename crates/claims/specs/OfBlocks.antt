@@ -10,8 +10,7 @@ use mathlib.Core.Path.{_≡_}
 use mathlib.Core.List.{List, []}
 use mathlib.Core.Logic.{_↔_}
 use lib.ListN.{length}
-use Rattle.words.specs.Answer.{gives, refused, Answer}
-use Rattle.words.specs.Refusal.{numberOf}
+use Rattle.words.specs.Answer.{gives, refused, Answer, because}
 use Rattle.words.specs.declared.Refusal.{Refusal}
 use Rattle.groups.specs.Group.{Bytes, Group}
 use Rattle.groups.specs.Width.{reading}
@@ -44,7 +43,7 @@ ReaderSetDown = (f : ℕ → Rule) (s : List ℕ) (p : ℕ) → Bytes s →
 -- A group is read as a number exactly when it is its shortest form, and else is a gap, by row 2 or 3.
 pub record ReadGroup (k : Reader) (g : List ℕ) : Type 0 where
   pub number : (v : Value k) → (reading (width k) g ≡ gives (v, length g)) ↔ (OfWidth k v × (g ≡ form k v))
-  pub gap : (why : Refusal) → (reading (width k) g ≡ refused (numberOf why)) ↔ GapRow (width k) g why
+  pub gap : (why : Refusal) → (reading (width k) g ≡ refused (because why)) ↔ GapRow (width k) g why
 
 -- Each promise is met by some answer, with some final content of what was lent, on every input: no claim over promises is empty.
 pub record BlocksMet : Type 0 where

@@ -17,7 +17,7 @@ use mathlib.Core.Option.{some, none}
 use lib.IntN.{ℤ, pos, negℤ, _+ℤ_}
 use lib.Signed.{_≤ℤ_, _<ℤ_}
 use lib.ListN.{length, take, drop}
-use Rattle.words.specs.Answer.{gives, refused}
+use Rattle.words.specs.Answer.{gives, refused, Why}
 use Rattle.words.specs.Promise.{Numbered, HasRoom}
 use Rattle.words.specs.declared.Count.{Count}
 use Rattle.words.specs.declared.Refusal.{Refusal}
@@ -141,7 +141,7 @@ SomeByte k = (s : List ℕ) (at : ℕ) (v : Value k) (n : Count) → Bytes s →
 abbrev pub SpecParse : Type 0
 SpecParse = (s : List ℕ) → Bytes s →
     ((v n : ℕ) → (spec-parse s ≡ some (n, v)) ↔ (read unsigned.u64 s 0 ≡ gives (v, n)))
-    × ((spec-parse s ≡ none) ↔ ((why : ℕ) × (read unsigned.u64 s 0 ≡ refused why)))
+    × ((spec-parse s ≡ none) ↔ ((why : Why) × (read unsigned.u64 s 0 ≡ refused why)))
 
 -- Each promise is met by some answer, with some final content of what was lent, on every input: no claim over promises is empty.
 pub record NumbersMet : Type 0 where

@@ -8,7 +8,7 @@ use mathlib.Core.List.{List, [], _∷_, _++_}
 use mathlib.Core.Path.{_≡_}
 use lib.IntN.{ℤ, pos, negℤ}
 use lib.ListN.{replicate}
-use Rattle.words.specs.Answer.{Answer, gives, refused}
+use Rattle.words.specs.Answer.{Answer, gives, refused, by}
 use Rattle.groups.specs.Width.{Width, read}
 use Rattle.uleb128.specs.Unsigned.{u64, u32}
 use Rattle.sleb128.specs.Signed.{i64}
@@ -23,10 +23,10 @@ rows64 =
     ∷ (0x7f ∷ [], gives (127, 1))
     ∷ (0x80 ∷ 0x01 ∷ [], gives (128, 2))
     ∷ (0xb9 ∷ 0x64 ∷ [], gives (12857, 2))
-    ∷ (0x80 ∷ 0x00 ∷ [], refused 3)
+    ∷ (0x80 ∷ 0x00 ∷ [], refused (by 3))
     ∷ (replicate 9 0x80 ++ 0x01 ∷ [], gives (2 ^ 63, 10))
-    ∷ (replicate 9 0xff ++ 0x02 ∷ [], refused 2)
-    ∷ (replicate 10 0x80, refused 2)
+    ∷ (replicate 9 0xff ++ 0x02 ∷ [], refused (by 2))
+    ∷ (replicate 10 0x80, refused (by 2))
     ∷ []
 
 abbrev pub rows32 : List (List ℕ × Answer (ℕ × ℕ))

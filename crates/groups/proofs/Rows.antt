@@ -7,8 +7,7 @@ use native.Mathlib.Omega.{arith}
 use borrow.Author.Tests.{lt-ltb, le-ltb, le-leb, lt-leb, eq-eqb, ne-eqb, leb-true, ltb-true, not-true}
 use lib.Dec.{leb, ltb, eqb}
 use lib.ListN.{length, getD, take, drop}
-use Rattle.words.specs.Answer.{Answer, gives, refused}
-use Rattle.words.specs.Refusal.{numberOf}
+use Rattle.words.specs.Answer.{Answer, gives, refused, by, because}
 use Rattle.words.specs.declared.Refusal.{Refusal}
 use Rattle.words.specs.declared.Refusal.the-variants.{End, Overflow, NotShortest, Place}
 use Rattle.words.proofs.Cases.{by-order, by-test, both-false, both-true}
@@ -76,13 +75,13 @@ module _ {A : Type 0} (w : Width A) where
       let p = both-true (ltb 0 (run l)) (w .extra (getD l (run l - 1) 0) (getD l (run l) 0)) e in (ltb-true 0 (run l) (p .0), p .1)
 
   -- row 1: fewer bytes than the most, and each is 128 or more
-  pub row-end : (l : List ℕ) → run l ≡ length l → run l < w .most → reading w l ≡ refused 1
+  pub row-end : (l : List ℕ) → run l ≡ length l → run l < w .most → reading w l ≡ refused (by 1)
   unfolding reading
   row-end l e h = rw (runs-out l e h)
 
   -- row 2: the byte at the greatest length is there, all earlier are 128 or more, and it is not allowed
   pub row-large : (l : List ℕ) → w .most ≤ length l → w .most ≤ run l + 1 → w .allowed (getD l (w .most - 1) 0) ≡ false
-      → reading w l ≡ refused 2
+      → reading w l ≡ refused (by 2)
   unfolding reading
   row-large l there h e =
       let out : runsOut w l ≡ false = by-order (run l) (length l) (λ c. closed-not-out l c) (λ c. long-not-out l (omega (arith, run-within l))) in
@@ -91,7 +90,7 @@ module _ {A : Type 0} (w : Width A) where
   module _ (l : List ℕ) (ends : run l < length l) (fits : run l + 1 ≤ w .most)
       (last : run l + 1 ≡ w .most → w .allowed (getD l (run l) 0) ≡ true) where
     -- row 3: the number ends, not too large, and its last byte isn't the first and is one too many
-    pub row-many : 0 < run l → w .extra (getD l (run l - 1) 0) (getD l (run l) 0) ≡ true → reading w l ≡ refused 3
+    pub row-many : 0 < run l → w .extra (getD l (run l - 1) 0) (getD l (run l) 0) ≡ true → reading w l ≡ refused (by 3)
     unfolding reading
     row-many h e = rw (closed-not-out l ends, not-large l fits last, too-many l h e)
 
@@ -101,7 +100,7 @@ module _ {A : Type 0} (w : Width A) where
     unfolding reading
     row-number f = rw (closed-not-out l ends, not-large l fits last, not-many l f)
 
-  pub read-past : (s : List ℕ) (at : ℕ) → length s < at → read w s at ≡ refused 4
+  pub read-past : (s : List ℕ) (at : ℕ) → length s < at → read w s at ≡ refused (by 4)
   unfolding read
   read-past s at h = rw (lt-ltb (length s) at h)
 
@@ -111,14 +110,14 @@ module _ {A : Type 0} (w : Width A) where
 
 -- what a reading can say: a number, or a refusal that has a name
 module _ {A X : Type 0} (w : Width A) where
-  pub reading-cases : (g : List ℕ) → ((v : A) (n : ℕ) → reading w g ≡ gives (v, n) → X) → ((why : Refusal) → reading w g ≡ refused (numberOf why) → X) → X
+  pub reading-cases : (g : List ℕ) → ((v : A) (n : ℕ) → reading w g ≡ gives (v, n) → X) → ((why : Refusal) → reading w g ≡ refused (because why) → X) → X
   unfolding reading
   reading-cases g value fault =
       by-test (runsOut w g) (λ o. fault End (rw o))
       (λ o. by-test (tooLarge w g) (λ l. fault Overflow (rw (o, l)))
       (λ l. by-test (tooMany w g) (λ m. fault NotShortest (rw (o, l, m))) (λ m. value (w .value (take (run g + 1) g)) (run g + 1) (rw (o, l, m)))))
 
-  pub read-cases : (s : List ℕ) (at : ℕ) → ((v : A) (n : ℕ) → read w s at ≡ gives (v, n) → X) → ((why : Refusal) → read w s at ≡ refused (numberOf why) → X) → X
+  pub read-cases : (s : List ℕ) (at : ℕ) → ((v : A) (n : ℕ) → read w s at ≡ gives (v, n) → X) → ((why : Refusal) → read w s at ≡ refused (because why) → X) → X
   read-cases s at value fault =
       by-order (length s) at (λ h. fault Place (read-past w s at h))
       (λ h. reading-cases (drop at s) (λ v n e. value v n (read-from w s at h ∙ e)) (λ why e. fault why (read-from w s at h ∙ e)))

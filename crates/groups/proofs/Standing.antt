@@ -11,7 +11,7 @@ use native.Mathlib.Numerals.{add-one}
 use native.Mathlib.Omega.{arith}
 use lib.ListN.{length, getD, take, drop, take-append-drop, length-append, List·getD-append}
 use lib.Seq.{take-append-seam, getD-drop}
-use Rattle.words.specs.Answer.{pick, Answer, gives, refused}
+use Rattle.words.specs.Answer.{pick, Answer, gives, refused, by, Why}
 use Rattle.words.proofs.Cases.{by-order, clash}
 use Rattle.groups.specs.Group.{Bytes, run, Group, one, more}
 use Rattle.groups.specs.Width.{Width, runsOut, tooLarge, tooMany, reading, read}
@@ -58,7 +58,7 @@ module _ {A : Type 0} (w : Width A) {g : List ℕ} (rest : List ℕ) (r : Group 
   unfolding tooMany
   many-behind = rw (run-behind rest r, same-byte (run g - 1) (omega arith), same-byte (run g) (omega arith))
 
-  pub behind : reading w (g ++ rest) ≡ pick (tooLarge w g) (refused 2) (pick (tooMany w g) (refused 3) (gives (w .value g, length g)))
+  pub behind : reading w (g ++ rest) ≡ pick (tooLarge w g) (refused (by 2)) (pick (tooMany w g) (refused (by 3)) (gives (w .value g, length g)))
   unfolding reading
   behind =
       let n : run g + 1 ≡ length g = omega (arith, group-length r) in
@@ -66,7 +66,7 @@ module _ {A : Type 0} (w : Width A) {g : List ℕ} (rest : List ℕ) (r : Group 
       closed-not-out w (g ++ rest) (rw (run-behind rest r, length-append g rest) (omega (arith, group-length r))) in
       rw (out, large-behind, many-behind, run-behind rest r, n, take-append-seam g rest)
 
-accept : {X : Type 0} {p : X} (t : Bool) (k : ℕ) (x : Answer X) → pick t (refused k) x ≡ gives p → (t ≡ false) × (x ≡ gives p)
+accept : {X : Type 0} {p : X} (t : Bool) (k : Why) (x : Answer X) → pick t (refused k) x ≡ gives p → (t ≡ false) × (x ≡ gives p)
 accept true k x e = let z : _≡_ {A = ℕ} 0 1 = cc in absurd (omega arith)
 accept false k x e = (refl, e)
 
@@ -81,7 +81,7 @@ module _ {A : Type 0} (w : Width A) (s : List ℕ) (at : ℕ) where
       read-from w s at (g .here) ∙ rw (g .begins, behind w (g .rest) (g .is-group), g .not-large, g .not-many, g .value, g .count)
 
   module _ (sound : Sound w) (bytes : Bytes s) {v : A} {n : ℕ} (e : read w s at ≡ gives (v, n)) where
-    apart : {X : Type 0} {k : ℕ} → read w s at ≡ refused k → X
+    apart : {X : Type 0} {k : Why} → read w s at ≡ refused k → X
     apart q = let z : _≡_ {A = ℕ} 0 1 = cc in absurd (omega arith)
 
     stands-here : at ≤ length s
@@ -103,9 +103,9 @@ module _ {A : Type 0} (w : Width A) (s : List ℕ) (at : ℕ) where
         let l = drop at s in
         let split : l ≡ take (run l + 1) l ++ drop (run l + 1) l = sym (take-append-drop (run l + 1) l) in
         let r = front-group l bytes-from stands-closed in
-        let a = accept (tooLarge w (take (run l + 1) l)) 2 _
+        let a = accept (tooLarge w (take (run l + 1) l)) (by 2) _
         (sym (behind w (drop (run l + 1) l) r) ∙ sym (ap (reading w) split) ∙ sym (read-from w s at stands-here) ∙ e) in
-        let b = accept (tooMany w (take (run l + 1) l)) 3 _ (a .1) in
+        let b = accept (tooMany w (take (run l + 1) l)) (by 3) _ (a .1) in
         let p = paired (b .1) in
         record {
           here = stands-here;
@@ -134,7 +134,7 @@ count-within w {n = n} sound g =
 -- the count is that of the bytes through the first below 128
 pub reading-count : {A : Type 0} (w : Width A) (l : List ℕ) {v : A} {n : ℕ} → reading w l ≡ gives (v, n) → n ≡ run l + 1
 unfolding reading
-reading-count w l e = paired (accept (tooMany w l) 3 _ (accept (tooLarge w l) 2 _ (accept (runsOut w l) 1 _ e .1) .1) .1) .1
+reading-count w l e = paired (accept (tooMany w l) (by 3) _ (accept (tooLarge w l) (by 2) _ (accept (runsOut w l) (by 1) _ e .1) .1) .1) .1
 
 -- a group read where it stands is read as it is alone
 pub alone : {A : Type 0} (w : Width A) (l : List ℕ) → Bytes l → run l < length l → reading w l ≡ reading w (take (run l + 1) l)

@@ -12,7 +12,7 @@ use native.Mathlib.Nat.{mod-eq-of-lt}
 use native.Mathlib.Omega.{arith}
 use borrow.Author.Tests.{lt-ltb, le-ltb, le-leb, lt-leb, eq-eqb, ne-eqb}
 use lib.ListN.{length, getD, take, drop}
-use Rattle.words.specs.Answer.{gives, refused}
+use Rattle.words.specs.Answer.{gives, refused, by}
 use Rattle.words.proofs.Cases.{by-order}
 use Rattle.groups.specs.Group.{run, digits}
 use Rattle.groups.specs.Width.{Width, read}
@@ -79,16 +79,16 @@ module _ (s : List ℕ) (at : ℕ) where
 
 module _ {A : Type 0} (w : Width A) (sound : Sound w) (s : List ℕ) (at : ℕ) where
   -- as many high bytes as the width has bytes: the one at the greatest length is not allowed
-  pub overrun : at ≤ length s → w .most ≤ run (drop at s) → read w s at ≡ refused 2
+  pub overrun : at ≤ length s → w .most ≤ run (drop at s) → read w s at ≡ refused (by 2)
   overrun h m =
       read-from w s at h ∙ row-large w (drop at s) (omega (arith, run-within (drop at s))) (omega arith)
       (sound .low (getD (drop at s) (w .most - 1) 0) (in-run (drop at s) (w .most - 1) (omega (arith, sound .some))))
 
-  pub open-short : {high : ℕ} → Opening s at high → high < w .most → read w s at ≡ refused 1
+  pub open-short : {high : ℕ} → Opening s at high → high < w .most → read w s at ≡ refused (by 1)
   open-short o m = read-from w s at (o .here) ∙ row-end w (drop at s) (o .all) (omega (arith, o .many))
 
   module _ {sum weight high last : ℕ} (c : Closing s at sum weight high last) where
-    pub closed-large : high + 1 ≡ w .most → w .allowed last ≡ false → read w s at ≡ refused 2
+    pub closed-large : high + 1 ≡ w .most → w .allowed last ≡ false → read w s at ≡ refused (by 2)
     closed-large e f =
         let i : w .most - 1 ≡ high = omega arith in
         read-from w s at (c .here)
@@ -98,7 +98,7 @@ module _ {A : Type 0} (w : Width A) (sound : Sound w) (s : List ℕ) (at : ℕ) 
       closing-allowed : run (drop at s) + 1 ≡ w .most → w .allowed (getD (drop at s) (run (drop at s)) 0) ≡ true
       closing-allowed e = rw (c .many, ← (c .is)) (allowed (rw (c .many) at e))
 
-      pub closed-many : 0 < high → w .extra (getD (drop at s) (high - 1) 0) last ≡ true → read w s at ≡ refused 3
+      pub closed-many : 0 < high → w .extra (getD (drop at s) (high - 1) 0) last ≡ true → read w s at ≡ refused (by 3)
       closed-many h e =
           read-from w s at (c .here)
           ∙ row-many w (drop at s) (omega (arith, c .many, c .ends)) (omega (arith, c .many)) closing-allowed (omega (arith, c .many))

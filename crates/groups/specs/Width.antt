@@ -14,7 +14,7 @@ use mathlib.Core.Bool.{Bool, not}
 use mathlib.Core.Path.{_≡_}
 use lib.Dec.{leb, ltb, eqb}
 use lib.ListN.{length, getD, take, drop}
-use Rattle.words.specs.Answer.{pick, both, Answer, gives, refused}
+use Rattle.words.specs.Answer.{pick, both, Answer, gives, refused, by}
 use Rattle.groups.specs.Group.{run}
 
 pub record Width (A : Type 0) : Type 0 where
@@ -38,13 +38,13 @@ tooMany w l = both (ltb 0 (run l)) (w .extra (getD l (run l - 1) 0) (getD l (run
 
 unfoldable pub reading : {A : Type 0} → Width A → List ℕ → Answer (A × ℕ)
 reading w l =
-    pick (runsOut w l) (refused 1)
-    (pick (tooLarge w l) (refused 2)
-    (pick (tooMany w l) (refused 3)
+    pick (runsOut w l) (refused (by 1))
+    (pick (tooLarge w l) (refused (by 2))
+    (pick (tooMany w l) (refused (by 3))
     (gives (w .value (take (run l + 1) l), run l + 1))))
 
 unfoldable pub read : {A : Type 0} → Width A → List ℕ → ℕ → Answer (A × ℕ)
-read w s at = pick (ltb (length s) at) (refused 4) (reading w (drop at s))
+read w s at = pick (ltb (length s) at) (refused (by 4)) (reading w (drop at s))
 
 pub record Due {A : Type 0} (b a : Answer A) : Type 0 where
   pub is : a ≡ b

@@ -15,7 +15,7 @@ use lib.ListN.{length, drop, length-append}
 use denote.Enum.Declared.{tagOf}
 use denote.Struct.Field.{Field}
 use types.Run.{OneOf, miss}
-use Rattle.words.specs.Answer.{pick}
+use Rattle.words.specs.Answer.{pick, because, Why, numberIn}
 use Rattle.words.specs.Refusal.{numberOf}
 use Rattle.words.proofs.Cases.{by-test}
 use Rattle.words.proofs.OneNumber.{same-refusal}
@@ -50,22 +50,22 @@ module _ {g : Listing} {s before : List ℕ} where
     pub none : next s (meansListing g) ≡ over → GivesLine g s before X.Ended before
     none e = record { answer = rw (le-ltb (length before) line-room room, e); leaves = rw (le-ltb (length before) line-room room, e) }
 
-    pub refused : {why : Refusal} → next s (meansListing g) ≡ refuses (numberOf why) → GivesLine g s before (X.Refused why) before
+    pub refused : {why : Refusal} → next s (meansListing g) ≡ refuses (because why) → GivesLine g s before (X.Refused why) before
     refused e = record { answer = rw (le-ltb (length before) line-room room, e); leaves = rw (le-ltb (length before) line-room room, e) }
 
 pub row-fits : (p v : ℕ) (what : List ℕ) → p < 2 ^ 64 → v < 2 ^ 64 → length what ≤ 12 → length (row p what v) ≤ line-room
 unfolding row
 row-fits p v what h k w = simp length-append (omega (arith, at-most-20 p h, at-most-20 v k))
 
-pub fault-short : (k : ℕ) → length (fault k) ≤ 12
-fault-short k = by-test (eqb k 3) (λ e. rw e (omega arith)) (λ e. rw e (omega arith))
+pub fault-short : (why : Why) → length (fault why) ≤ 12
+fault-short why = by-test (eqb (numberIn why) 3) (λ e. rw e (omega arith)) (λ e. rw e (omega arith))
 
 -- the places of all variants but not-shortest's, which is 2: the keys of `gap_row`'s second arm
 abbrev others : List (List Field) → ℕ → List ℕ
 others [] i = []
 others (Fs ∷ Fss) i = pick (eqb i 2) (others Fss (suc i)) (i ∷ others Fss (suc i))
 
-pub other-fault : (why : Refusal) → OneOf (others parts 0) (tagOf the-type why) → fault (numberOf why) ≡ ascii "overflow"
+pub other-fault : (why : Refusal) → OneOf (others parts 0) (tagOf the-type why) → fault (because why) ≡ ascii "overflow"
 other-fault why h =
     by-test (eqb (numberOf why) 3)
     (λ t.

@@ -13,6 +13,7 @@ use Rattle.listing.specs.declared.Listing.{Listing}
 use Rattle.listing.specs.declared.Listing.the-variants as G
 use Rattle.listing.specs.declared.Next.{Next}
 use Rattle.listing.specs.declared.Next.the-variants as X
+use Rattle.words.specs.Answer.{numberIn}
 use Rattle.words.proofs.OneMeaning.{same-by}
 
 pub same-next : (r r′ : Next) → meansNext r ≡ meansNext r′ → r ≡ r′
@@ -31,7 +32,7 @@ same-next = same-by meansNext back-next is
     back-next : Coming ℕ → Next
     back-next (I.line n g) = X.Line (record { 0 = n }) (listing g)
     back-next I.over = X.Ended
-    back-next (I.refuses k) = X.Refused (refusalOf k)
+    back-next (I.refuses k) = X.Refused (refusalOf (numberIn k))
 
     is : (r : Next) → back-next (meansNext r) ≡ r
     is (X.Line n g) = rw (listing-is g)

@@ -17,6 +17,7 @@ use Rattle.listing.specs.Promise.{meansListing, meansNext, asked, counte
 use Rattle.listing.specs.declared.Listing.{Listing}
 use Rattle.listing.specs.declared.Next.{Next}
 use Rattle.listing.specs.declared.Next.the-variants as X
+use Rattle.words.specs.Answer.{by}
 use Rattle.listing.proofs.Left.{Fine, left, rank, Left, none, more, coming}
 
 pub record Took (s : List ℕ) (g : Stage) (n : ℕ) (g′ : Stage) (after : List ℕ) : Type 0 where
@@ -50,7 +51,7 @@ module _ {s : List ℕ} {g : Listing} (fine : Fine s (meansListing g)) {before a
       let answer : line (n .0) (meansListing g′) ≡ counted (asked s (meansListing g) (length before)) = ap meansNext (sym is) ∙ e .answer in
       by-order (length before) line-room
       (λ h.
-      let f : line (n .0) (meansListing g′) ≡ refuses 5 = rw (lt-ltb (length before) line-room h) at answer in
+      let f : line (n .0) (meansListing g′) ≡ refuses (by 5) = rw (lt-ltb (length before) line-room h) at answer in
       let z : _≡_ {A = ℕ} 0 1 = cc in absurd (omega arith))
       (λ h.
       line-took (next s (meansListing g)) before (coming s (meansListing g) fine) (rw (le-ltb (length before) line-room h) at answer)

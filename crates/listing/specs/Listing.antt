@@ -12,7 +12,7 @@ use Prim.Native.Nat.{ℕ, _+_}
 use mathlib.Core.List.{List, [], _∷_, _++_}
 use lib.Dec.{ltb, eqb}
 use lib.ListN.{length}
-use Rattle.words.specs.Answer.{pick, Answer, gives, refused}
+use Rattle.words.specs.Answer.{pick, Answer, gives, refused, Why, numberIn}
 use Rattle.groups.specs.Width.{reading}
 use Rattle.texts.specs.Texts.{ascii, decimal}
 use Rattle.uleb128.specs.Unsigned.{u64}
@@ -25,8 +25,8 @@ unfoldable pub row : ℕ → List ℕ → ℕ → List ℕ
 row p what v = decimal p ++ ascii " " ++ what ++ ascii " " ++ decimal v ++ ascii "\n"
 
 -- a group's fault is 2 or 3
-abbrev pub fault : ℕ → List ℕ
-fault k = pick (eqb k 3) (ascii "not-shortest") (ascii "overflow")
+abbrev pub fault : Why → List ℕ
+fault why = pick (eqb (numberIn why) 3) (ascii "not-shortest") (ascii "overflow")
 
 abbrev pub rowOf : ℕ → Answer (ℕ × ℕ) → ℕ → List ℕ
 rowOf p (gives v) n = row p (ascii "number") (v .0)
@@ -56,7 +56,7 @@ pub data Stage : Type 0 where
 pub data Coming (A : Type 0) : Type 0 where
   line : A → Stage → Coming A
   over : Coming A
-  refuses : ℕ → Coming A
+  refuses : Why → Coming A
 
 -- the line of what a step at the place p says
 abbrev pub lineOf : ℕ → Stepped → Coming (List ℕ)

@@ -9,8 +9,7 @@ use mathlib.Core.List.{List, _++_}
 use mathlib.Core.Path.{_≡_}
 use lib.Dec.{ltb}
 use lib.ListN.{length, drop}
-use Rattle.words.specs.Answer.{pick}
-use Rattle.words.specs.Refusal.{numberOf}
+use Rattle.words.specs.Answer.{pick, by, because}
 use Rattle.listing.specs.Listing.{Stage, top, at, ended, Coming, line, over, refuses, line-room, next}
 use Rattle.listing.specs.declared.Listing.{Listing}
 use Rattle.listing.specs.declared.Listing.the-variants as L
@@ -25,10 +24,10 @@ meansListing L.Ended = ended
 abbrev pub meansNext : Next → Coming ℕ
 meansNext (X.Line n g) = line (n .0) (meansListing g)
 meansNext X.Ended = over
-meansNext (X.Refused why) = refuses (numberOf why)
+meansNext (X.Refused why) = refuses (because why)
 
 abbrev pub asked : List ℕ → Stage → ℕ → Coming (List ℕ)
-asked s g room = pick (ltb room line-room) (refuses 5) (next s g)
+asked s g room = pick (ltb room line-room) (refuses (by 5)) (next s g)
 
 abbrev pub counted : Coming (List ℕ) → Coming ℕ
 counted (line l g) = line (length l) g

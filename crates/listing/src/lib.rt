@@ -15,6 +15,7 @@ ghost use lib.ListN.{length};
 ghost use Rattle.words.specs.Refusal.{numberOf};
 ghost use Rattle.texts.specs.Texts.{Lays};
 ghost use Rattle.listing.specs.Listing.{line-room, fault, row as rowOf};
+ghost use Rattle.words.specs.Answer.{because};
 ghost use Rattle.listing.specs.Promise.{GivesLine};
 
 // A buffer of so many bytes holds every line.
@@ -52,7 +53,7 @@ fn row(place: Place, what: &[u8], value: u64, line: &mut [u8]) -> Place
 
 // The row of a group that is no number: its fault and its length.
 fn gap_row(place: Place, refusal: Refusal, count: Count, line: &mut [u8]) -> Place
-    ensures { λ r. ⌜ Lays (rowOf (place .0) (fault (numberOf refusal)) (count .0)) (now (line .entry)) 0 (r .0) (now (line .exit)) ⌝ }
+    ensures { λ r. ⌜ Lays (rowOf (place .0) (fault (because refusal)) (count .0)) (now (line .entry)) 0 (r .0) (now (line .exit)) ⌝ }
 {
     let length = count.0;
     match refusal {

@@ -5,10 +5,9 @@ use mathlib.Core.List.{List}
 use native.Mathlib.Omega.{arith}
 use borrow.Author.Tests.{lt-ltb, le-ltb, le-leb, lt-leb}
 use lib.ListN.{length}
-use Rattle.words.specs.Answer.{Answer, gives, refused}
-use Rattle.words.specs.Refusal.{numberOf}
+use Rattle.words.specs.Answer.{Answer, gives, refused, by, because, Why}
 use Rattle.words.specs.declared.Refusal.{Refusal}
-use Rattle.words.specs.declared.Refusal.the-variants as Why
+use Rattle.words.specs.declared.Refusal.the-variants.{TooLong, NoRoom}
 use Rattle.blocks.specs.Block.{block-limit}
 use Rattle.lists.specs.Strict.{numbers, counted, filling, strict, filled}
 use Rattle.lists.specs.Inner.{many, Room, Fits}
@@ -31,7 +30,7 @@ room-of : (a : Answer (List ℕ)) {n room : ℕ} → gives n ≡ many a → n �
 room-of (gives ns) {n} e h = let f : n ≡ length ns = cc in omega arith
 room-of (refused k) e h = let z : _≡_ {A = ℕ} 0 1 = cc in absurd (omega arith)
 
-counted-full : (a : Answer (List ℕ)) {n : ℕ} (room : ℕ) → gives n ≡ many a → room < n → refused 5 ≡ counted a room
+counted-full : (a : Answer (List ℕ)) {n : ℕ} (room : ℕ) → gives n ≡ many a → room < n → refused (by 5) ≡ counted a room
 counted-full (gives ns) {n} room e h = let f : n ≡ length ns = cc in rw (lt-leb (length ns) room (omega arith))
 counted-full (refused k) room e h = let z : _≡_ {A = ℕ} 0 1 = cc in absurd (omega arith)
 
@@ -39,11 +38,11 @@ filling-full : (a : Answer (List ℕ)) {n : ℕ} (old : List ℕ) → gives n �
 filling-full (gives ns) {n} old e h = let f : n ≡ length ns = cc in rw (lt-leb (length ns) (length old) (omega arith))
 filling-full (refused k) old e h = refl
 
-counted-fault : (a : Answer (List ℕ)) {k : ℕ} (room : ℕ) → refused k ≡ many a → refused k ≡ counted a room
+counted-fault : (a : Answer (List ℕ)) {k : Why} (room : ℕ) → refused k ≡ many a → refused k ≡ counted a room
 counted-fault (gives ns) room e = let z : _≡_ {A = ℕ} 0 1 = cc in absurd (omega arith)
 counted-fault (refused k) room e = e
 
-filling-fault : (a : Answer (List ℕ)) {k : ℕ} (old : List ℕ) → refused k ≡ many a → old ≡ filling a old
+filling-fault : (a : Answer (List ℕ)) {k : Why} (old : List ℕ) → refused k ≡ many a → old ≡ filling a old
 filling-fault (gives ns) old e = let z : _≡_ {A = ℕ} 0 1 = cc in absurd (omega arith)
 filling-fault (refused k) old e = refl
 
@@ -51,12 +50,12 @@ pub list-fits : (s : List ℕ) {n room : ℕ} → length s ≤ block-limit → g
 list-fits s short e h = record { short = short; enough = room-of (numbers s) e h }
 
 module _ (s old : List ℕ) where
-  pub block-too-long : block-limit < length s → ReadsStrict s old (Refused Why.TooLong) old
+  pub block-too-long : block-limit < length s → ReadsStrict s old (Refused TooLong) old
   unfolding strict filled
   block-too-long h = let t = lt-ltb block-limit (length s) h in record { answer = rw t; leaves = rw t }
 
-  pub block-faulty : {k : Refusal} → length s ≤ block-limit → refused (numberOf k) ≡ many (numbers s) → ReadsStrict s old (Refused k) old
+  pub block-faulty : {k : Refusal} → length s ≤ block-limit → refused (because k) ≡ many (numbers s) → ReadsStrict s old (Refused k) old
   block-faulty h e = answered s old h (counted-fault (numbers s) (length old) e) (filling-fault (numbers s) old e)
 
-  pub list-full : {n : ℕ} → length s ≤ block-limit → gives n ≡ many (numbers s) → length old < n → ReadsStrict s old (Refused Why.NoRoom) old
+  pub list-full : {n : ℕ} → length s ≤ block-limit → gives n ≡ many (numbers s) → length old < n → ReadsStrict s old (Refused NoRoom) old
   list-full short e h = answered s old short (counted-full (numbers s) (length old) e h) (filling-full (numbers s) old e h)

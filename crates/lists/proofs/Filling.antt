@@ -8,7 +8,7 @@ use native.Mathlib.Omega.{arith}
 use borrow.Author.Tests.{le-leb}
 use lib.ListN.{length, drop, set, length-set}
 use lib.Seq.{sets, sets-eq}
-use Rattle.words.specs.Answer.{Answer, gives, refused}
+use Rattle.words.specs.Answer.{Answer, gives, refused, Why}
 use Rattle.lists.specs.Strict.{numbers, filling}
 use Rattle.lists.specs.Inner.{ahead, Room, Fits, Behind}
 use Rattle.lists.specs.Promise.{ReadsStrict}
@@ -64,7 +64,7 @@ module _ (s old : List ℕ) (fits : Fits s (length old)) where
           left = poured-one v (numbers (drop q s)) out count (length old) r ∙ (rw (b .left) at (g .left));
         }
 
-    pub no-fault : {X : Type 0} {k : ℕ} → numbers (drop at s) ≡ refused k → X
+    pub no-fault : {X : Type 0} {k : Why} → numbers (drop at s) ≡ refused k → X
     no-fault {k = k} e = let r : Room (refused k) count (length old) = rw e at (g .enough) in absurd r
 
     pub all-poured : length s ≤ at → (n : Numbers) → n .0 ≡ count → ReadsStrict s old (Filled n) out

@@ -4,7 +4,7 @@ use mathlib.Core.Path.{_≡_, refl}
 use mathlib.Core.List.{List, [], _∷_}
 use native.Mathlib.Omega.{arith}
 use lib.ListN.{length, take, drop}
-use Rattle.words.specs.Answer.{gives, refused}
+use Rattle.words.specs.Answer.{gives, refused, by}
 use Rattle.groups.specs.Group.{run}
 use Rattle.groups.specs.Width.{reading}
 use Rattle.uleb128.specs.Unsigned.{u64}
@@ -17,7 +17,7 @@ pub numbers-group : (l : List ℕ) → run l < length l
 unfolding numbersOf
 numbers-group l h = rw (cut-group l h)
 
-pub numbers-tail : (l : List ℕ) → run l ≡ length l → 0 < length l → numbers l ≡ refused 1
+pub numbers-tail : (l : List ℕ) → run l ≡ length l → 0 < length l → numbers l ≡ refused (by 1)
 unfolding numbersOf
 numbers-tail [] h s = absurd (omega arith)
 numbers-tail (b ∷ l) h s = rw (cut-tail (b ∷ l) h)

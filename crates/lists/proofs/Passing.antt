@@ -4,7 +4,7 @@ use mathlib.Core.Path.{_≡_, refl, _∙_}
 use mathlib.Core.List.{List}
 use native.Mathlib.Omega.{arith}
 use lib.ListN.{length, drop, length-drop}
-use Rattle.words.specs.Answer.{Answer, gives, refused}
+use Rattle.words.specs.Answer.{Answer, gives, refused, by, Why}
 use Rattle.groups.specs.Width.{reading}
 use Rattle.groups.proofs.Run.{all-high}
 use Rattle.uleb128.specs.Unsigned.{u64}
@@ -21,7 +21,7 @@ said-number : (a : Answer (ℕ × ℕ)) (n p : ℕ) {v m q : ℕ} → number (un
 said-number (gives x) n p {v} {m} {q} e = let f : v ≡ x .0 = cc in let h : q ≡ p + n = cc in ((x .1, rw f), h)
 said-number (refused k) n p e = let z : _≡_ {A = ℕ} 0 1 = cc in absurd (omega arith)
 
-said-gap : (a : Answer (ℕ × ℕ)) (n p : ℕ) {k m q : ℕ} → gap k m q ≡ says (valued unsigned a) n p → a ≡ refused k
+said-gap : (a : Answer (ℕ × ℕ)) (n p : ℕ) {k : Why} {m q : ℕ} → gap k m q ≡ says (valued unsigned a) n p → a ≡ refused k
 said-gap (gives x) n p e = let z : _≡_ {A = ℕ} 0 1 = cc in absurd (omega arith)
 said-gap (refused k) n p {k = j} e = let f : j ≡ k = cc in rw f
 
@@ -65,7 +65,7 @@ module _ (s : List ℕ) (p : ℕ) (here : StartsBefore s p) where
   pub pass-possible : {x : Stepped} → x ≡ stepping Unsigned s p → Possible x
   pass-possible e = by-step (λ k. rw (e, at-tail k) tt) (λ g k. rw (e, at-group g k) (said-possible (reading u64 g) (length g) p))
 
-  pub pass-tail : {m q : ℕ} → tail m q ≡ stepping Unsigned s p → numbers (drop p s) ≡ refused 1
+  pub pass-tail : {m q : ℕ} → tail m q ≡ stepping Unsigned s p → numbers (drop p s) ≡ refused (by 1)
   pass-tail e =
       by-step (λ k. numbers-tail (drop p s) (all-high (drop p s) (k .high)) (omega (arith, length-drop p s, here .before-end)))
       (λ g k. said-no-tail (reading u64 g) (length g) p (e ∙ at-group g k))
@@ -74,7 +74,7 @@ module _ (s : List ℕ) (p : ℕ) (here : StartsBefore s p) where
   unfolding numbersOf
   numbers-here g k = rw (group-cut k)
 
-  pub pass-gap : {k m q : ℕ} → gap k m q ≡ stepping Unsigned s p → numbers (drop p s) ≡ refused k
+  pub pass-gap : {k : Why} {m q : ℕ} → gap k m q ≡ stepping Unsigned s p → numbers (drop p s) ≡ refused k
   pass-gap {k} {m} {q} e =
       by-step (λ t. let f : gap k m q ≡ tail (length (drop p s)) p = e ∙ at-tail t in let z : _≡_ {A = ℕ} 0 1 = cc in absurd (omega arith))
       (λ g h. numbers-here g h ∙ rw (said-gap (reading u64 g) (length g) p (e ∙ at-group g h)))

@@ -4,7 +4,7 @@ use mathlib.Core.Path.{_≡_, refl, ap, sym, _∙_}
 use mathlib.Core.List.{List, []}
 use native.Mathlib.Omega.{arith}
 use lib.ListN.{length, drop, length-drop}
-use Rattle.words.specs.Answer.{Answer, gives, refused}
+use Rattle.words.specs.Answer.{Answer, gives, refused, Why}
 use Rattle.blocks.specs.Block.{block-limit}
 use Rattle.blocks.specs.GroupsAndTail.{Start}
 use Rattle.blocks.proofs.FromStart.{front-start}
@@ -54,7 +54,7 @@ module _ (s : List ℕ) where
           left = g .left ∙ rw (b .left) (added-one count v (numbers (drop q s)));
         }
 
-    pub fault-found : {k : ℕ} → numbers (drop at s) ≡ refused k → refused k ≡ many (numbers s)
+    pub fault-found : {k : Why} → numbers (drop at s) ≡ refused k → refused k ≡ many (numbers s)
     fault-found e = sym (g .left ∙ rw e)
 
     pub nothing-left : length s ≤ at → numbers (drop at s) ≡ gives []

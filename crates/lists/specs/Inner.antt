@@ -13,8 +13,7 @@ use Prim.Native.Nat.{ℕ, _+_, _≤_, _<_}
 use mathlib.Core.List.{List, _∷_}
 use mathlib.Core.Path.{_≡_}
 use lib.ListN.{length, drop}
-use Rattle.words.specs.Answer.{Answer, gives, refused}
-use Rattle.words.specs.Refusal.{numberOf}
+use Rattle.words.specs.Answer.{Answer, gives, refused, because}
 use Rattle.blocks.specs.Block.{block-limit}
 use Rattle.blocks.specs.GroupsAndTail.{Start}
 use Rattle.lists.specs.Strict.{numbers}
@@ -51,11 +50,11 @@ pub record Behind (s : List ℕ) (p v q : ℕ) : Type 0 where
 
 abbrev pub Passes : List ℕ → ℕ → Passed → Type 0
 Passes s p (P.Number v q) = Behind s p v q
-Passes s p (P.Fault why) = numbers (drop p s) ≡ refused (numberOf why)
+Passes s p (P.Fault why) = numbers (drop p s) ≡ refused (because why)
 
 abbrev pub meansScanned : Scanned → Answer ℕ
 meansScanned (C.Count n) = gives n
-meansScanned (C.Fault why) = refused (numberOf why)
+meansScanned (C.Fault why) = refused (because why)
 
 pub record Scans (s : List ℕ) (r : Scanned) : Type 0 where
   pub is : meansScanned r ≡ many (numbers s)

@@ -8,22 +8,21 @@ use mathlib.Core.List.{List}
 use mathlib.Core.Path.{_≡_}
 use lib.Dec.{ltb}
 use lib.ListN.{length}
-use Rattle.words.specs.Answer.{pick, refused, meansWritten, Answer, gives}
+use Rattle.words.specs.Answer.{pick, refused, meansWritten, Answer, gives, by, because}
 use Rattle.words.specs.declared.Written.{Written}
 use Rattle.words.specs.Laying.{writing, laid}
 use Rattle.lists.specs.Lists.{list-limit, forms}
-use Rattle.words.specs.Refusal.{numberOf}
 use Rattle.lists.specs.Strict.{strict, filled}
 use Rattle.lists.specs.declared.ReadList.{ReadList}
 use Rattle.lists.specs.declared.ReadList.the-variants.{Filled, Refused}
 
 pub record WritesList (ns s : List ℕ) (at : ℕ) (r : Written) (out : List ℕ) : Type 0 where
-  pub answer : meansWritten r ≡ pick (ltb list-limit (length ns)) (refused 7) (writing s at (length (forms ns)))
+  pub answer : meansWritten r ≡ pick (ltb list-limit (length ns)) (refused (by 7)) (writing s at (length (forms ns)))
   pub leaves : out ≡ pick (ltb list-limit (length ns)) s (laid s at (forms ns))
 
 abbrev pub meansReadList : ReadList → Answer ℕ
 meansReadList (Filled n) = gives (n .0)
-meansReadList (Refused r) = refused (numberOf r)
+meansReadList (Refused r) = refused (because r)
 
 pub record ReadsStrict (s old : List ℕ) (r : ReadList) (out : List ℕ) : Type 0 where
   pub answer : meansReadList r ≡ strict s (length old)

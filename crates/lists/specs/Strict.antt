@@ -9,7 +9,7 @@ use Prim.Native.Nat.{ℕ}
 use mathlib.Core.List.{List, [], _∷_, _++_}
 use lib.Dec.{leb, ltb}
 use lib.ListN.{length, drop}
-use Rattle.words.specs.Answer.{pick, Answer, gives, refused}
+use Rattle.words.specs.Answer.{pick, Answer, gives, refused, by}
 use Rattle.groups.specs.Width.{reading}
 use Rattle.uleb128.specs.Unsigned.{u64}
 use Rattle.blocks.specs.Block.{block-limit}
@@ -22,7 +22,7 @@ joined (gives p) (gives ns) = gives (p .0 ∷ ns)
 
 unfoldable pub numbersOf : List (List ℕ) → List ℕ → Answer (List ℕ)
 numbersOf [] [] = gives []
-numbersOf [] (b ∷ t) = refused 1
+numbersOf [] (b ∷ t) = refused (by 1)
 numbersOf (g ∷ gs) t = joined (reading u64 g) (numbersOf gs t)
 
 abbrev pub numbers : List ℕ → Answer (List ℕ)
@@ -30,14 +30,14 @@ numbers s = numbersOf (cut s .groups) (cut s .tail)
 
 abbrev pub counted : Answer (List ℕ) → ℕ → Answer ℕ
 counted (refused k) room = refused k
-counted (gives ns) room = pick (leb (length ns) room) (gives (length ns)) (refused 5)
+counted (gives ns) room = pick (leb (length ns) room) (gives (length ns)) (refused (by 5))
 
 abbrev pub filling : Answer (List ℕ) → List ℕ → List ℕ
 filling (refused k) old = old
 filling (gives ns) old = pick (leb (length ns) (length old)) (ns ++ drop (length ns) old) old
 
 unfoldable pub strict : List ℕ → ℕ → Answer ℕ
-strict s room = pick (ltb block-limit (length s)) (refused 7) (counted (numbers s) room)
+strict s room = pick (ltb block-limit (length s)) (refused (by 7)) (counted (numbers s) room)
 
 unfoldable pub filled : List ℕ → List ℕ → List ℕ
 filled s old = pick (ltb block-limit (length s)) old (filling (numbers s) old)

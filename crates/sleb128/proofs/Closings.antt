@@ -6,7 +6,7 @@ use native.Mathlib.Nat.{mul-zero, add-zero}
 use native.Mathlib.Omega.{arith}
 use borrow.Author.Tests.{lt-ltb, le-ltb, le-leb, lt-leb, ne-eqb}
 use lib.Dec.{leb, ltb, eqb}
-use Rattle.words.specs.Answer.{gives, refused}
+use Rattle.words.specs.Answer.{gives, refused, by}
 use Rattle.words.proofs.Cases.{both-false}
 use Rattle.groups.proofs.Run.{limit, pow-up}
 use Rattle.sleb128.specs.Signed.{signed}
@@ -14,7 +14,7 @@ use Rattle.sleb128.specs.Inner.{closing, Closes}
 
 module _ (b : Bool) (low weight high bits : ℕ) where
   module _ (some : 0 < bits) where
-    pub closing-large : 8 < high → closing b low weight high bits ≡ refused 2
+    pub closing-large : 8 < high → closing b low weight high bits ≡ refused (by 2)
     unfolding closing
     closing-large h = rw (le-leb 9 high h, lt-ltb 0 bits some)
 
@@ -33,7 +33,7 @@ module _ (b : Bool) (low weight high bits : ℕ) where
     closing-one h = rw (zero-bits, both-false (leb 9 high), le-ltb 0 high (omega arith), mul-zero weight, add-zero low)
 
     module _ (more : 1 ≤ high) where
-      pub closing-many : low * 2 < weight → closing b low weight high bits ≡ refused 3
+      pub closing-many : low * 2 < weight → closing b low weight high bits ≡ refused (by 3)
       unfolding closing
       closing-many h = rw (zero-bits, both-false (leb 9 high), lt-ltb 0 high more, lt-ltb (low * 2) weight h)
 

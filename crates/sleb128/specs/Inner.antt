@@ -7,13 +7,13 @@ use mathlib.Core.Bool.{Bool}
 use mathlib.Core.Path.{_≡_}
 use lib.Dec.{leb, ltb, eqb}
 use lib.IntN.{ℤ}
-use Rattle.words.specs.Answer.{pick, both, Answer, gives, refused}
+use Rattle.words.specs.Answer.{pick, both, Answer, gives, refused, by}
 use Rattle.sleb128.specs.Signed.{signed}
 
 unfoldable pub closing : Bool → ℕ → ℕ → ℕ → ℕ → Answer (ℤ × ℕ)
 closing b low weight high bits =
-    pick (both (leb 9 high) (ltb 0 bits)) (refused 2)
-    (pick (both (ltb 0 high) (both (eqb bits 0) (ltb (low * 2) weight))) (refused 3)
+    pick (both (leb 9 high) (ltb 0 bits)) (refused (by 2))
+    (pick (both (ltb 0 high) (both (eqb bits 0) (ltb (low * 2) weight))) (refused (by 3))
     (gives (signed b (low + weight * bits), high + 1)))
 
 pub record Closes (low weight high bits : ℕ) : Type 0 where

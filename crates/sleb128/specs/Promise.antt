@@ -7,8 +7,7 @@
 use Prim.Native.Nat.{ℕ}
 use mathlib.Core.List.{List}
 use lib.IntN.{ℤ}
-use Rattle.words.specs.Answer.{Answer, gives, refused}
-use Rattle.words.specs.Refusal.{numberOf}
+use Rattle.words.specs.Answer.{Answer, gives, refused, because}
 use Rattle.groups.specs.Width.{Reads}
 use Rattle.sleb128.specs.Signed.{i64, form}
 use Rattle.sleb128.specs.declared.ReadI64.{ReadI64}
@@ -19,7 +18,7 @@ use Rattle.words.specs.Laying.{Lays, Takes}
 
 abbrev pub meansReadI64 : ReadI64 → Answer (ℤ × ℕ)
 meansReadI64 (Number v n) = gives (v, n .0)
-meansReadI64 (Refused r) = refused (numberOf r)
+meansReadI64 (Refused r) = refused (because r)
 
 abbrev pub ReadsI64 : List ℕ → ℕ → ReadI64 → Type 0
 ReadsI64 s at r = Reads i64 s at (meansReadI64 r)

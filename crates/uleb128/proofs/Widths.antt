@@ -7,7 +7,7 @@ use native.Mathlib.Nat.{pos-of-ne-zero}
 use native.Mathlib.Omega.{arith}
 use borrow.Author.Tests.{le-leb, lt-leb, eq-eqb, ne-eqb, eqb-false}
 use lib.ListN.{length, drop}
-use Rattle.words.specs.Answer.{gives, refused}
+use Rattle.words.specs.Answer.{gives, refused, by}
 use Rattle.groups.specs.Group.{run}
 use Rattle.groups.specs.Width.{Reads}
 use Rattle.groups.proofs.Rows.{read-past, keeps}
@@ -38,20 +38,20 @@ module _ (most top : ℕ) (wide : Wide most top) (s : List ℕ) (at : ℕ) where
   wide-sound : Sound (unsigned most top)
   wide-sound = sound most top (omega (arith, wide .some)) (wide .low)
 
-  pub says-past : length s < at → Reads (unsigned most top) s at (refused 4)
+  pub says-past : length s < at → Reads (unsigned most top) s at (refused (by 4))
   says-past h = keeps (read-past (unsigned most top) s at h)
 
-  pub says-end : {high : ℕ} → Opening s at high → high < most → Reads (unsigned most top) s at (refused 1)
+  pub says-end : {high : ℕ} → Opening s at high → high < most → Reads (unsigned most top) s at (refused (by 1))
   says-end o h = keeps (open-short (unsigned most top) wide-sound s at o h)
 
-  pub says-overrun : at ≤ length s → most ≤ run (drop at s) → Reads (unsigned most top) s at (refused 2)
+  pub says-overrun : at ≤ length s → most ≤ run (drop at s) → Reads (unsigned most top) s at (refused (by 2))
   says-overrun h m = keeps (overrun (unsigned most top) wide-sound s at h m)
 
   module _ {sum weight high last : ℕ} (c : Closing s at sum weight high last) where
-    pub says-large : high + 1 ≡ most → top < last → Reads (unsigned most top) s at (refused 2)
+    pub says-large : high + 1 ≡ most → top < last → Reads (unsigned most top) s at (refused (by 2))
     says-large e h = keeps (closed-large (unsigned most top) wide-sound s at c e (lt-leb last top h))
 
-    pub says-many : high < most → 0 < high → last < 1 → Reads (unsigned most top) s at (refused 3)
+    pub says-many : high < most → 0 < high → last < 1 → Reads (unsigned most top) s at (refused (by 3))
     says-many m h z =
         keeps
         (closed-many (unsigned most top) wide-sound s at c (omega arith) (λ e. le-leb last top (omega arith)) h (eq-eqb last 0 (omega arith)))

@@ -11,8 +11,7 @@ use Rattle.words.specs.declared.Count.{Count}
 use Rattle.words.specs.declared.Written.{Written}
 use Rattle.words.specs.Laying.{Lays, Takes}
 use Rattle.uleb128.specs.Unsigned.{form, u64, u32}
-use Rattle.words.specs.Answer.{Answer, gives, refused}
-use Rattle.words.specs.Refusal.{numberOf}
+use Rattle.words.specs.Answer.{Answer, gives, refused, because}
 use Rattle.groups.specs.Width.{Width, Reads}
 use Rattle.uleb128.specs.declared.ReadU64.{ReadU64}
 use Rattle.uleb128.specs.declared.ReadU32.{ReadU32}
@@ -33,11 +32,11 @@ LengthU32 v r = Takes (form v) r
 
 abbrev pub meansReadU64 : ReadU64 → Answer (ℕ × ℕ)
 meansReadU64 (R64.Number v n) = gives (v, n .0)
-meansReadU64 (R64.Refused r) = refused (numberOf r)
+meansReadU64 (R64.Refused r) = refused (because r)
 
 abbrev pub meansReadU32 : ReadU32 → Answer (ℕ × ℕ)
 meansReadU32 (R32.Number v n) = gives (v, n .0)
-meansReadU32 (R32.Refused r) = refused (numberOf r)
+meansReadU32 (R32.Refused r) = refused (because r)
 
 abbrev pub Reads64 : Width ℕ → List ℕ → ℕ → ReadU64 → Type 0
 Reads64 w s at r = Reads w s at (meansReadU64 r)

@@ -11,7 +11,7 @@ use borrow.Author.Tests.{lt-ltb, le-ltb, le-leb, lt-leb, eq-eqb, ne-eqb}
 use lib.Dec.{ltb, eqb, leb·suc-suc, eqb·suc-suc}
 use lib.ListN.{length, getD, take, drop, drop-of-length-le, List·getD-eq-default}
 use lib.Seq.{drop-cons}
-use Rattle.words.specs.Answer.{pick, Answer, gives, refused}
+use Rattle.words.specs.Answer.{pick, Answer, gives, refused, by, Why}
 use Rattle.words.proofs.Cases.{by-order, both-false}
 use Rattle.words.specs.declared.Count.{Count}
 use Rattle.groups.specs.Group.{Bytes, run, digits}
@@ -44,7 +44,7 @@ above-zero l h =
     omega (arith, digits-take l (run l) in-l))
     (λ out. let z : getD l (run l) 0 ≡ 0 = List·getD-eq-default l 0 out in absurd (omega arith))
 
-ahead-pick : (b k : ℕ) (t : Bool) (a : Answer (ℕ × ℕ)) → ahead b (pick t (refused k) a) ≡ pick t (refused k) (ahead b a)
+ahead-pick : (b : ℕ) (k : Why) (t : Bool) (a : Answer (ℕ × ℕ)) → ahead b (pick t (refused k) a) ≡ pick t (refused k) (ahead b a)
 ahead-pick b k true a = refl
 ahead-pick b k false a = refl
 
@@ -65,8 +65,8 @@ module _ (k top : ℕ) (some : 0 < k) (b : ℕ) (l : List ℕ) (hi : 128 ≤ b) 
   many-step = rw (run-high b l hi, lt-ltb 0 (suc (run l)) (omega arith))
 
   -- what is read behind the byte is 0 exactly where its last byte is 0 and it has no other
-  last-step : (x : Answer (ℕ × ℕ)) → pick (eqb (getD l (run l) 0) 0) (refused 3) x
-      ≡ pick (tooMany (unsigned k top) l) (refused 3) (pick (eqb (digits (take (run l + 1) l)) 0) (refused 3) x)
+  last-step : (x : Answer (ℕ × ℕ)) → pick (eqb (getD l (run l) 0) 0) (refused (by 3)) x
+      ≡ pick (tooMany (unsigned k top) l) (refused (by 3)) (pick (eqb (digits (take (run l + 1) l)) 0) (refused (by 3)) x)
   unfolding tooMany
   last-step x =
       let b = getD l (run l) 0 in
@@ -87,12 +87,12 @@ module _ (k top : ℕ) (some : 0 < k) (b : ℕ) (l : List ℕ) (hi : 128 ≤ b) 
   step =
       let j : suc (run l) + 1 ≡ suc (run l + 1) = omega arith in
       rw (out-step, large-step, many-step, run-high b l hi, j, last-step, ← (add-one (run l + 1)))
-      (sym (ahead-pick b 1 (runsOut (unsigned k top) l) _ ∙ ap (pick (runsOut (unsigned k top) l) (refused 1))
-      (ahead-pick b 2 (tooLarge (unsigned k top) l) _ ∙ ap (pick (tooLarge (unsigned k top) l) (refused 2))
-      (ahead-pick b 3 (tooMany (unsigned k top) l) _))))
+      (sym (ahead-pick b (by 1) (runsOut (unsigned k top) l) _ ∙ ap (pick (runsOut (unsigned k top) l) (refused (by 1)))
+      (ahead-pick b (by 2) (tooLarge (unsigned k top) l) _ ∙ ap (pick (tooLarge (unsigned k top) l) (refused (by 2)))
+      (ahead-pick b (by 3) (tooMany (unsigned k top) l) _))))
 
 module _ (left : ℕ) (some : 0 < left) (s : List ℕ) (at : ℕ) where
-  pub rest-end : at ≤ length s → length s ≤ at → Reads (unsigned left 1) s at (refused 1)
+  pub rest-end : at ≤ length s → length s ≤ at → Reads (unsigned left 1) s at (refused (by 1))
   unfolding run
   rest-end h e =
       let n : drop at s ≡ [] = drop-of-length-le s e in
@@ -106,7 +106,7 @@ module _ (left : ℕ) (some : 0 < left) (s : List ℕ) (at : ℕ) where
     reading-from = read-from (unsigned left 1) s at (omega arith) ∙ ap (reading (unsigned left 1)) bytes-from
 
     module _ (low : getD s at 0 < 128) where
-      pub rest-large : left < 2 → 1 < getD s at 0 → Reads (unsigned left 1) s at (refused 2)
+      pub rest-large : left < 2 → 1 < getD s at 0 → Reads (unsigned left 1) s at (refused (by 2))
       rest-large l h =
           let i : left - 1 ≡ 0 = omega arith in
           keeps
@@ -122,7 +122,7 @@ module _ (left : ℕ) (some : 0 < left) (s : List ℕ) (at : ℕ) where
           ∙ rw (z, mod-eq-of-lt low, add-zero))
 
     module _ (high : 128 ≤ getD s at 0) where
-      pub rest-overrun : left < 2 → Reads (unsigned left 1) s at (refused 2)
+      pub rest-overrun : left < 2 → Reads (unsigned left 1) s at (refused (by 2))
       rest-overrun l =
           keeps
           (overrun (unsigned left 1) (sound left 1 some (omega arith)) s at (omega arith)
@@ -154,7 +154,7 @@ module _ (b : ℕ) {r : ReadU64} where
     pub room : Joins (meansReadU64 r) → (v < 2 ^ 57) × (n .0 < 10)
     room j = rw e at j
 
-    pub ahead-zero : v < 1 → ahead b (meansReadU64 r) ≡ refused 3
+    pub ahead-zero : v < 1 → ahead b (meansReadU64 r) ≡ refused (by 3)
     ahead-zero z = rw (e, eq-eqb v 0 (omega arith))
 
     pub ahead-number : 1 ≤ v → ahead b (meansReadU64 r) ≡ gives (b % 128 + 128 * v, n .0 + 1)

@@ -6,7 +6,7 @@
 --   Fits v s at left          the form of v has at most left bytes, and they fit
 use Prim.Native.Nat.{ℕ, _+_, _*_, _%_, _^_, _<_, _≤_}
 use lib.Dec.{eqb}
-use Rattle.words.specs.Answer.{pick, Answer, gives, refused}
+use Rattle.words.specs.Answer.{pick, Answer, gives, refused, by}
 use mathlib.Core.List.{List}
 use mathlib.Core.Path.{_≡_}
 use lib.ListN.{length}
@@ -14,7 +14,7 @@ use lib.Seq.{sets}
 use Rattle.uleb128.specs.Unsigned.{form}
 
 abbrev pub ahead : ℕ → Answer (ℕ × ℕ) → Answer (ℕ × ℕ)
-ahead b (gives p) = pick (eqb (p .0) 0) (refused 3) (gives (b % 128 + 128 * p .0, p .1 + 1))
+ahead b (gives p) = pick (eqb (p .0) 0) (refused (by 3)) (gives (b % 128 + 128 * p .0, p .1 + 1))
 ahead b (refused k) = refused k
 
 abbrev pub Joins : Answer (ℕ × ℕ) → Type 0

@@ -19,8 +19,7 @@ use borrow.Author.Tests.{le-leb, lt-leb, leb-true, leb-false}
 use lib.Dec.{leb}
 use lib.ListN.{length, take, drop, set}
 use lib.Seq.{sets, sets-eq}
-use Rattle.words.specs.Answer.{gives, refused, meansWritten}
-use Rattle.words.specs.Refusal.{numberOf}
+use Rattle.words.specs.Answer.{gives, refused, meansWritten, because}
 use Rattle.words.specs.Laying.{writing, laid, Lays}
 use Rattle.words.specs.Promise.{HasRoom}
 use Rattle.words.specs.declared.Count.{Count}
@@ -86,7 +85,7 @@ module _ {bytes s : List ℕ} {at : ℕ} {r : Written} {out : List ℕ} (room : 
 
   pub never-refused : {X : Type 0} {k : Refusal} → r ≡ Refused k → X
   never-refused {k = k} e =
-      let q : refused (numberOf k) ≡ gives (length bytes) = ap meansWritten (sym e) ∙ answers in
+      let q : refused (because k) ≡ gives (length bytes) = ap meansWritten (sym e) ∙ answers in
       let z : _≡_ {A = ℕ} 0 1 = cc in absurd (omega arith)
 
 pub sets-append : (a b l : List ℕ) (i : ℕ) → sets l i (a ++ b) ≡ sets (sets l i a) (i + length a) b

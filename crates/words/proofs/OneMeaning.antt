@@ -14,18 +14,17 @@ use mathlib.Core.List.{List}
 use mathlib.Core.Path.{_≡_, refl, ap, sym, _∙_, subst}
 use mathlib.Core.Logic.{_↔_}
 use native.Mathlib.Omega.{arith}
-use Rattle.words.specs.Answer.{Answer, gives, refused, meansWritten}
-use Rattle.words.specs.Refusal.{numberOf}
+use Rattle.words.specs.Answer.{Answer, gives, refused, meansWritten, because, Why, numberIn}
 use Rattle.words.specs.Laying.{Lays}
 use Rattle.words.specs.declared.Refusal.{Refusal}
 use Rattle.words.specs.declared.Written.{Written}
 use Rattle.words.specs.declared.Written.the-variants as W
 use Rattle.words.proofs.OneNumber.{refusalOf, refusal-back, same-refusal}
 
-pub apart : {A X : Type 0} {a : A} {k : ℕ} → _≡_ {A = Answer A} (gives a) (refused k) → X
+pub apart : {A X : Type 0} {a : A} {k : Why} → _≡_ {A = Answer A} (gives a) (refused k) → X
 apart e = let z : _≡_ {A = ℕ} 0 1 = cc in absurd (omega arith)
 
-pub refused-same : {A : Type 0} (a b : Refusal) → _≡_ {A = Answer A} (refused (numberOf a)) (refused (numberOf b)) → a ≡ b
+pub refused-same : {A : Type 0} (a b : Refusal) → _≡_ {A = Answer A} (refused (because a)) (refused (because b)) → a ≡ b
 refused-same a b e = same-refusal a b (cc)
 
 pub given-value : {A : Type 0} {a b : A} {m n : ℕ} → _≡_ {A = Answer (A × ℕ)} (gives (a, m)) (gives (b, n)) → a ≡ b
@@ -46,7 +45,7 @@ same-by means back is r r′ e = sym (is r) ∙ ap back e ∙ is r′
 
 abbrev pub back : {A R : Type 0} → (A → R) → (Refusal → R) → Answer A → R
 back give refuse (gives a) = give a
-back give refuse (refused k) = refuse (refusalOf k)
+back give refuse (refused k) = refuse (refusalOf (numberIn k))
 
 pub same-written : (r r′ : Written) → meansWritten r ≡ meansWritten r′ → r ≡ r′
 same-written =

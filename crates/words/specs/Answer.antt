@@ -3,11 +3,14 @@
 --   pick         one of two things, by a test
 --   both         two tests hold
 --   either       one of two tests holds
---   Answer A     what was asked for, or a refusal by its number
+--   Why          what a refusal carries: its number; `numberIn`: that number
+--   because r    what the refusal r carries
+--   Answer A     what was asked for, or a refusal with what it carries
 --   meansWritten what a writer's answer says
 use Prim.Native.Nat.{ℕ}
 use mathlib.Core.Bool.{Bool, true, false}
 use Rattle.words.specs.Refusal.{numberOf}
+use Rattle.words.specs.declared.Refusal.{Refusal}
 use Rattle.words.specs.declared.Written.{Written}
 use Rattle.words.specs.declared.Written.the-variants.{Bytes, Refused}
 
@@ -23,10 +26,19 @@ abbrev pub either : Bool → Bool → Bool
 either true b = true
 either false b = b
 
+pub data Why : Type 0 where
+  by : ℕ → Why
+
+abbrev pub numberIn : Why → ℕ
+numberIn (by k) = k
+
+abbrev pub because : Refusal → Why
+because r = by (numberOf r)
+
 pub data Answer (A : Type 0) : Type 0 where
   gives : A → Answer A
-  refused : ℕ → Answer A
+  refused : Why → Answer A
 
 abbrev pub meansWritten : Written → Answer ℕ
 meansWritten (Bytes n) = gives (n .0)
-meansWritten (Refused r) = refused (numberOf r)
+meansWritten (Refused r) = refused (because r)

@@ -11,7 +11,7 @@ use mathlib.Core.List.{List, _++_}
 use mathlib.Core.Path.{_≡_}
 use lib.Dec.{leb}
 use lib.ListN.{length, take, drop}
-use Rattle.words.specs.Answer.{pick, Answer, gives, refused, meansWritten}
+use Rattle.words.specs.Answer.{pick, Answer, gives, refused, meansWritten, by}
 use Rattle.words.specs.declared.Count.{Count}
 use Rattle.words.specs.declared.Written.{Written}
 
@@ -19,7 +19,7 @@ abbrev pub fits : ℕ → ℕ → ℕ → Bool
 fits size at n = leb (at + n) size
 
 unfoldable pub writing : List ℕ → ℕ → ℕ → Answer ℕ
-writing s at n = pick (fits (length s) at n) (gives n) (refused 5)
+writing s at n = pick (fits (length s) at n) (gives n) (refused (by 5))
 
 unfoldable pub laid : List ℕ → ℕ → List ℕ → List ℕ
 laid s at bytes = pick (fits (length s) at (length bytes)) (take at s ++ bytes ++ drop (at + length bytes) s) s

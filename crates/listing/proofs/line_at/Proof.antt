@@ -3,7 +3,7 @@ use Prim.Native.Nat.{_^_, _<_}
 use mathlib.Core.Path.{_≡_, ap, sym, _∙_}
 use native.Mathlib.Omega.{arith}
 use borrow.Author.Needs.{needs}
-use Rattle.words.specs.Refusal.{numberOf}
+use Rattle.words.specs.Answer.{because}
 use Rattle.blocks.specs.Promise.{meansStep}
 use Rattle.blocks.specs.declared.Step.{Step}
 use Rattle.listing.specs.Listing.{at, lineOf, next}
@@ -87,7 +87,7 @@ returns-3 c =
     let told = c .before .before .before .before in
     let s = told .before .before .before in
     comes (start s .pre) (said s (told .before .refusal .given .1))
-    (row-fits _ _ _ (place-fits s) (told .known-told3 .given .1 .0 .1 .1 .0 .1) (fault-short (numberOf (told .before .refusal .given .0 .0)))) (c .before .before .gap-row .ensures)
+    (row-fits _ _ _ (place-fits s) (told .known-told3 .given .1 .0 .1 .1 .0 .1) (fault-short (because (told .before .refusal .given .0 .0)))) (c .before .before .gap-row .ensures)
 
 same-length-3 : tie.Need-same-length-3
 same-length-3 c = search needs
