@@ -24,12 +24,12 @@ use Rattle.words.proofs.Cases.{by-order}
 use Rattle.groups.specs.Group.{Bytes, run}
 use Rattle.groups.proofs.Exact.{group-length}
 use Rattle.groups.proofs.Run.{at-run, all-high, high-all}
-use Rattle.groups.proofs.Standing.{front-group, run-behind}
-use Rattle.blocks.specs.Block.{block-limit, isStart, tail, finished, saysBy, stepping}
+use Rattle.groups.proofs.Stands.{front-group, run-behind}
+use Rattle.blocks.specs.Block.{isStart, tail, finished, saysBy, stepping, blockLimit}
 use Rattle.blocks.specs.GroupsAndTail.{Start, GroupAt, TailAt, cut}
 use Rattle.blocks.specs.declared.Cursor.{Cursor}
 use Rattle.blocks.specs.declared.Rule.{Rule}
-use Rattle.blocks.proofs.Cuts.{grouped, cut-group, cut-tail}
+use Rattle.blocks.proofs.Cut.{grouped, cut-group, cut-tail}
 use Rattle.blocks.proofs.Rows.{step-finished, step-tail, step-says}
 
 pub front-start : (s : List ℕ) → Start s 0
@@ -75,7 +75,7 @@ module _ (s : List ℕ) (p : ℕ) (e : p ≡ length s) where
   unfolding cut
   end-cut = rw (drop-of-length-le s {i = p} (omega arith))
 
-  pub end-says : (rule : Rule) → length s ≤ block-limit → stepping rule s p ≡ finished p
+  pub end-says : (rule : Rule) → length s ≤ blockLimit → stepping rule s p ≡ finished p
   end-says rule f = sym (step-finished rule s p f (cursor p) refl (omega arith) (omega arith) .is)
 
 module _ {s : List ℕ} {p : ℕ} (k : TailAt s p) where
@@ -85,7 +85,7 @@ module _ {s : List ℕ} {p : ℕ} (k : TailAt s p) where
   pub tail-cut : cut (drop p s) ≡ record { groups = []; tail = drop p s }
   tail-cut = cut-tail (drop p s) all-tail
 
-  pub tail-says : (rule : Rule) → length s ≤ block-limit → stepping rule s p ≡ tail (length (drop p s)) p
+  pub tail-says : (rule : Rule) → length s ≤ blockLimit → stepping rule s p ≡ tail (length (drop p s)) p
   tail-says rule f =
       let n : Count = record { 0 = length (drop p s) } in
       sym (step-tail rule s p f (k .some) (start-true (k .start)) n (cursor p) (sym all-tail) refl (omega (arith, all-tail, length-drop p s)) .is)
@@ -111,7 +111,7 @@ module _ {s : List ℕ} {p : ℕ} {g : List ℕ} (k : GroupHere s p g) where
       let d : drop (run l + 1) l ≡ drop (p + length g) s = drop-drop (run l + 1) p s ∙ ap (λ (i : ℕ). drop (p + i) s) (sym here-long) in
       cut-group l (k .closes) ∙ rw (d, ← (k .is))
 
-  pub group-says : (rule : Rule) → length s ≤ block-limit → Start s p → stepping rule s p ≡ saysBy rule g p
+  pub group-says : (rule : Rule) → length s ≤ blockLimit → Start s p → stepping rule s p ≡ saysBy rule g p
   group-says rule f st =
       step-says rule s p f (omega (arith, here-long, here-within)) (start-true st) (omega (arith, here-long, here-within))
       ∙ ap (λ (t : List ℕ). saysBy rule t p) (sym (k .is))

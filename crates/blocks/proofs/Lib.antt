@@ -1,7 +1,7 @@
-pub mod Runs
+pub mod HighRun
 pub mod Rows
-pub mod Says
-pub mod Cuts
+pub mod GroupReading
+pub mod Cut
 pub mod FromStart
 pub mod OneStep
 pub mod StepRows

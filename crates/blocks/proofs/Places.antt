@@ -3,7 +3,7 @@
 --   ends-within     what ends within a part is the groups of the part
 --   begins-from     what begins behind a part, at n or later, stands behind the first byte below 128 of what follows the part
 --   from-placed      what begins at a start or later is the groups from there on
---   lessened        places less n
+--   less-placed        places less n
 use Prim.Native.Nat.{ℕ, _+_, _-_, _≤_, _<_}
 use mathlib.Core.Path.{_≡_, refl, ap, sym, _∙_}
 use mathlib.Core.List.{List, [], _∷_, _++_}
@@ -15,9 +15,8 @@ use lib.Seq.{length-take-le, drop-append-add, drop-drop, getD-drop}
 use Rattle.words.proofs.Cases.{by-order}
 use Rattle.groups.specs.Group.{run}
 use Rattle.groups.proofs.Run.{run-within, run-ends}
-use Rattle.blocks.specs.GroupsAndTail.{cut}
-use Rattle.blocks.proofs.Cuts.{cut-group, cut-tail, cut-append, total, all-bytes, Longer, longer, tail-run, nothing-left}
-use Rattle.blocks.specs.GroupsAndTail.{Start}
+use Rattle.blocks.specs.GroupsAndTail.{cut, Start}
+use Rattle.blocks.proofs.Cut.{cut-group, cut-tail, cut-append, total, all-bytes, Longer, longer, tail-run, nothing-left}
 use Rattle.blocks.specs.Places.{placed, listed, ending, from, less}
 
 -- no group that begins past n ends before it, and none that is long enough to pass it
@@ -47,16 +46,16 @@ skipped n p (g ∷ gs) hs h =
     let e : p + (length g + total gs) ≡ p + length g + total gs = omega arith in
     rw (lt-leb n p (omega arith), e) (skipped n (p + length g) gs hs (omega arith))
 
-pub stayed : (n p : ℕ) (gs : List (List ℕ)) → n ≤ p → from n (placed p gs) ≡ placed p gs
-stayed n p [] h = refl
-stayed n p (g ∷ gs) h = rw (le-leb n p h, stayed n (p + length g) gs (omega arith))
+pub from-early : (n p : ℕ) (gs : List (List ℕ)) → n ≤ p → from n (placed p gs) ≡ placed p gs
+from-early n p [] h = refl
+from-early n p (g ∷ gs) h = rw (le-leb n p h, from-early n (p + length g) gs (omega arith))
 
-pub lessened : (n p : ℕ) (gs : List (List ℕ)) → less n (placed (n + p) gs) ≡ placed p gs
-lessened n p [] = refl
-lessened n p (g ∷ gs) =
+pub less-placed : (n p : ℕ) (gs : List (List ℕ)) → less n (placed (n + p) gs) ≡ placed p gs
+less-placed n p [] = refl
+less-placed n p (g ∷ gs) =
     let e : n + p + length g ≡ n + (p + length g) = omega arith in
     let m : n + p - n ≡ p = omega arith in
-    rw (e, m, lessened n (p + length g) gs)
+    rw (e, m, less-placed n (p + length g) gs)
 
 pub begins-from : (a b : List ℕ) (n : ℕ) → length a < n → n ≤ length a + run b + 1
     → from n (listed (a ++ b)) ≡ placed (length a + run b + 1) (cut (drop (run b + 1) b) .groups)
@@ -76,7 +75,7 @@ begins-from a b n behind there =
         let e : 0 + total (cut a .groups) + length (take (run (t ++ b) + 1) (t ++ b)) ≡ length a + run b + 1 = omega (arith, l, tail-run a b, all-bytes a) in
         let i : run (t ++ b) + 1 ≡ length t + (run b + 1) = omega (arith, tail-run a b) in
         let d : drop (run (t ++ b) + 1) (t ++ b) ≡ drop (run b + 1) b = rw i (drop-append-add t b (run b + 1)) in
-        rw (cut-group (t ++ b) r, lt-leb n (0 + total (cut a .groups)) (omega (arith, all-bytes a)), e, d) (stayed n (length a + run b + 1) (cut (drop (run b + 1) b) .groups) there)
+        rw (cut-group (t ++ b) r, lt-leb n (0 + total (cut a .groups)) (omega (arith, all-bytes a)), e, d) (from-early n (length a + run b + 1) (cut (drop (run b + 1) b) .groups) there)
 
     none-low : length b ≤ run b → from n (placed (0 + total (cut a .groups)) (cut (t ++ b) .groups)) ≡ placed (length a + run b + 1) (cut (drop (run b + 1) b) .groups)
     none-low h =
@@ -85,7 +84,7 @@ begins-from a b n behind there =
 
 pub from-placed : (s : List ℕ) (p : ℕ) → Start s p → from p (listed s) ≡ placed p (cut (drop p s) .groups)
 from-placed s p k =
-    ⊎-elim (λ (e : p ≡ 0). rw e (stayed 0 0 (cut s .groups) (omega arith)))
+    ⊎-elim (λ (e : p ≡ 0). rw e (from-early 0 0 (cut s .groups) (omega arith)))
     (λ (h : (0 < p) × (getD s (p - 1) 0 < 128)).
     let a = take (p - 1) s in
     let b = drop (p - 1) s in

@@ -14,12 +14,11 @@ use Rattle.words.specs.Answer.{Answer, gives, refused, because}
 use Rattle.words.specs.declared.Refusal.{Refusal}
 use Rattle.blocks.specs.Block.{Val, readBy}
 use Rattle.blocks.specs.Promise.{meansValue}
-use Rattle.blocks.specs.GroupsAndTail.{cut}
+use Rattle.blocks.specs.GroupsAndTail.{cut, Start, GroupAt, TailAt}
 use Rattle.blocks.specs.declared.Rule.{Rule}
 use Rattle.blocks.specs.declared.Step.{Step}
 use Rattle.blocks.specs.declared.Step.the-variants as S
 use Rattle.blocks.specs.Places.{placed, listed}
-use Rattle.blocks.specs.GroupsAndTail.{Start, GroupAt, TailAt}
 use Rattle.blocks.specs.Rows.{GroupReads, StepRefused, StepRow}
 use Rattle.blocks.specs.Rows.StepRefused.{too-long, past, not-a-start}
 use Rattle.blocks.specs.Readings.{Block, readings, ReaderGives, at-end, at-tail, at-number, at-gap}

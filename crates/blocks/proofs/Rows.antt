@@ -12,7 +12,7 @@ use Rattle.words.specs.declared.Count.{Count}
 use Rattle.words.specs.declared.Refusal.the-variants.{TooLong, Place, NotAStart, NoStart}
 use Rattle.groups.specs.Group.{run}
 use Rattle.groups.proofs.Run.{run-within}
-use Rattle.blocks.specs.Block.{block-limit, isStart, Val, finished, readBy, says, saysBy, stepping, settingDown}
+use Rattle.blocks.specs.Block.{isStart, Val, finished, readBy, says, saysBy, stepping, settingDown, blockLimit}
 use Rattle.blocks.specs.Promise.{meansStep, Steps, SetsDown}
 use Rattle.blocks.specs.declared.Cursor.{Cursor}
 use Rattle.blocks.specs.declared.Rule.{Rule}
@@ -21,24 +21,24 @@ use Rattle.blocks.specs.declared.Step.the-variants as S
 use Rattle.blocks.specs.declared.SetDown.the-variants as D
 
 module _ (rule : Rule) (s : List ℕ) (p : ℕ) where
-  pub step-too-long : block-limit < length s → Steps rule s p (S.Refused TooLong)
+  pub step-too-long : blockLimit < length s → Steps rule s p (S.Refused TooLong)
   unfolding stepping
-  step-too-long h = record { is = rw (lt-ltb block-limit (length s) h) }
+  step-too-long h = record { is = rw (lt-ltb blockLimit (length s) h) }
 
-  module _ (fits : length s ≤ block-limit) where
+  module _ (fits : length s ≤ blockLimit) where
     pub step-past : length s < p → Steps rule s p (S.Refused Place)
     unfolding stepping
-    step-past h = record { is = rw (le-ltb block-limit (length s) fits, lt-ltb (length s) p h) }
+    step-past h = record { is = rw (le-ltb blockLimit (length s) fits, lt-ltb (length s) p h) }
 
     pub step-finished : (c : Cursor) → c .place .0 ≡ p → p ≤ length s → length s ≤ p → Steps rule s p (S.Finished c)
     unfolding stepping
-    step-finished c e h l = record { is = rw (le-ltb block-limit (length s) fits, le-ltb (length s) p h, le-leb (length s) p l) (ap finished e) }
+    step-finished c e h l = record { is = rw (le-ltb blockLimit (length s) fits, le-ltb (length s) p h, le-leb (length s) p l) (ap finished e) }
 
     module _ (here : p < length s) where
       pub step-not-a-start : isStart s p ≡ false → Steps rule s p (S.Refused NotAStart)
       unfolding stepping
       step-not-a-start e =
-          record { is = rw (le-ltb block-limit (length s) fits, le-ltb (length s) p (omega arith), lt-leb (length s) p here, e) }
+          record { is = rw (le-ltb blockLimit (length s) fits, le-ltb (length s) p (omega arith), lt-leb (length s) p here, e) }
 
       module _ (starts : isStart s p ≡ true) where
         pub step-tail : (n : Count) (c : Cursor) → n .0 ≡ run (drop p s) → c .place .0 ≡ p → length s ≤ p + run (drop p s) → Steps rule s p (S.Tail n c)
@@ -48,7 +48,7 @@ module _ (rule : Rule) (s : List ℕ) (p : ℕ) where
             record {
               is =
                   rw (
-                    le-ltb block-limit (length s) fits,
+                    le-ltb blockLimit (length s) fits,
                     le-ltb (length s) p (omega arith),
                     lt-leb (length s) p here,
                     starts,
@@ -63,7 +63,7 @@ module _ (rule : Rule) (s : List ℕ) (p : ℕ) where
         step-says h =
             let ne : run (drop p s) ≡ length (drop p s) → ⊥ = λ e. omega (arith, length-drop p s) in
             rw (
-              le-ltb block-limit (length s) fits,
+              le-ltb blockLimit (length s) fits,
               le-ltb (length s) p (omega arith),
               lt-leb (length s) p here,
               starts,
@@ -77,21 +77,21 @@ module _ (rule : Rule) (s : List ℕ) (p : ℕ) where
             record { is = q ∙ ap (λ (i : ℕ). says a i p) (c ∙ sym size) ∙ ap (λ (b : Answer Val). says b (length (take (run (drop p s) + 1) (drop p s))) p) e ∙ sym (step-says h) }
 
 module _ (s : List ℕ) (p : ℕ) where
-  pub set-too-long : block-limit < length s → SetsDown s p (D.Refused TooLong)
+  pub set-too-long : blockLimit < length s → SetsDown s p (D.Refused TooLong)
   unfolding settingDown
-  set-too-long h = record { is = rw (lt-ltb block-limit (length s) h) }
+  set-too-long h = record { is = rw (lt-ltb blockLimit (length s) h) }
 
-  module _ (fits : length s ≤ block-limit) where
+  module _ (fits : length s ≤ blockLimit) where
     pub set-past : length s < p → SetsDown s p (D.Refused Place)
     unfolding settingDown
-    set-past h = record { is = rw (le-ltb block-limit (length s) fits, lt-ltb (length s) p h) }
+    set-past h = record { is = rw (le-ltb blockLimit (length s) fits, lt-ltb (length s) p h) }
 
     module _ (here : p ≤ length s) where
       pub set-front : (c : Cursor) → c .place .0 ≡ p → p < 1 → SetsDown s p (D.At c)
       unfolding settingDown
       set-front c e h =
           let z : p ≡ 0 = omega arith in
-          record { is = rw (le-ltb block-limit (length s) fits, le-ltb (length s) p here, eq-eqb p 0 z) (ap gives (e ∙ z)) }
+          record { is = rw (le-ltb blockLimit (length s) fits, le-ltb (length s) p here, eq-eqb p 0 z) (ap gives (e ∙ z)) }
 
       module _ (some : 1 ≤ p) where
         pub set-found : (c : Cursor) → c .place .0 ≡ p + run (drop (p - 1) s) → p - 1 + run (drop (p - 1) s) < length s → SetsDown s p (D.At c)
@@ -99,7 +99,7 @@ module _ (s : List ℕ) (p : ℕ) where
         set-found c e h =
             record {
               is =
-                  rw (le-ltb block-limit (length s) fits, le-ltb (length s) p here, ne-eqb p 0 (λ z. omega arith), lt-ltb _ (length s) h) (ap gives e);
+                  rw (le-ltb blockLimit (length s) fits, le-ltb (length s) p here, ne-eqb p 0 (λ z. omega arith), lt-ltb _ (length s) h) (ap gives e);
             }
 
         pub set-none : length s ≤ p - 1 + run (drop (p - 1) s) → SetsDown s p (D.Refused NoStart)
@@ -107,5 +107,5 @@ module _ (s : List ℕ) (p : ℕ) where
         set-none h =
             record {
               is =
-                  rw (le-ltb block-limit (length s) fits, le-ltb (length s) p here, ne-eqb p 0 (λ z. omega arith), le-ltb _ (length s) h);
+                  rw (le-ltb blockLimit (length s) fits, le-ltb (length s) p here, ne-eqb p 0 (λ z. omega arith), le-ltb _ (length s) h);
             }

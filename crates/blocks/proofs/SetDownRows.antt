@@ -12,7 +12,7 @@ use Rattle.words.specs.declared.Refusal.the-variants.{Place, TooLong, NoStart}
 use Rattle.words.proofs.Cases.{by-order}
 use Rattle.groups.specs.Group.{run}
 use Rattle.groups.proofs.Run.{in-run, at-run}
-use Rattle.blocks.specs.Block.{block-limit}
+use Rattle.blocks.specs.Block.{blockLimit}
 use Rattle.blocks.specs.Promise.{SetsDown}
 use Rattle.blocks.specs.declared.Cursor.{Cursor}
 use Rattle.blocks.specs.declared.SetDown.{SetDown}
@@ -54,7 +54,7 @@ module _ (s : List ℕ) (p : ℕ) where
   -- one of the rows holds
   pub some-set-down-row : (r : SetDown) × SetDownRow s p r
   some-set-down-row =
-      by-order block-limit (length s) (λ h. (D.Refused TooLong, too-long h))
+      by-order blockLimit (length s) (λ h. (D.Refused TooLong, too-long h))
       (λ f.
       by-order (length s) p (λ h. (D.Refused Place, past f h))
       (λ here.

@@ -17,7 +17,7 @@ use Rattle.groups.specs.Group.{Bytes}
 use Rattle.groups.specs.Width.{Width, reading}
 use Rattle.uleb128.specs.Unsigned.{u64}
 use Rattle.sleb128.specs.Signed.{i64}
-use Rattle.blocks.specs.Block.{block-limit, isStart, Val, unsigned, signed, Stepped, number, gap, valued, readBy, says, saysBy, stepping}
+use Rattle.blocks.specs.Block.{isStart, Val, unsigned, signed, Stepped, number, gap, valued, readBy, says, saysBy, stepping, blockLimit}
 use Rattle.blocks.specs.Promise.{meansValue, Steps}
 use Rattle.blocks.specs.declared.Cursor.{Cursor}
 use Rattle.blocks.specs.declared.Rule.{Rule}
@@ -44,7 +44,7 @@ to-says (gives v) n p = refl
 to-says (refused k) n p = refl
 
 module _ (rule : Rule) (s : List ℕ) (p : ℕ) where
-  pub says-group : (g : List ℕ) → length s ≤ block-limit → GroupAt s p g → saysBy rule g p ≡ stepping rule s p
+  pub says-group : (g : List ℕ) → length s ≤ blockLimit → GroupAt s p g → saysBy rule g p ≡ stepping rule s p
   says-group g f k = sym (group-says (group-here k) rule f (k .start))
 
   -- what a group's reading makes a step say
@@ -83,7 +83,7 @@ count n = record { 0 = n }
 abbrev cursor : ℕ → Cursor
 cursor q = record { place = record { 0 = q } }
 
-module _ (s : List ℕ) (p : ℕ) (f : length s ≤ block-limit) (g : List ℕ) (k : GroupAt s p g) where
+module _ (s : List ℕ) (p : ℕ) (f : length s ≤ blockLimit) (g : List ℕ) (k : GroupAt s p g) where
   reads : (rule : Rule) (a : Answer Val) → readBy rule g ≡ a → GroupReads rule s p a (length g) (p + length g)
   reads rule a e = record { group = g; stands = k; reads = e; count = refl; next = refl }
 
@@ -99,19 +99,19 @@ module _ (s : List ℕ) (p : ℕ) (f : length s ≤ block-limit) (g : List ℕ) 
 module _ (rule : Rule) (s : List ℕ) (p : ℕ) where
   pub some-step-row : Bytes s → (r : Step) × StepRow rule s p r
   some-step-row bytes =
-      by-order block-limit (length s) (λ h. (S.Refused TooLong, too-long h))
+      by-order blockLimit (length s) (λ h. (S.Refused TooLong, too-long h))
       (λ f.
       by-order (length s) p (λ h. (S.Refused Place, past f h))
       (λ h.
       by-order p (length s) (within f)
       (λ l. (S.Finished (cursor p), (f, omega arith, refl)))))
     where
-      standing : length s ≤ block-limit → p < length s → Start s p → AtStart s p → (r : Step) × StepRow rule s p r
+      standing : length s ≤ blockLimit → p < length s → Start s p → AtStart s p → (r : Step) × StepRow rule s p r
       standing f h k (the-end e) = absurd (omega arith)
       standing f h k (a-tail t) = (S.Tail (count (length s - p)) (cursor p), (f, t, omega arith, refl))
       standing f h k (a-group g here) = group-row s p f g (here-group here bytes k) rule
 
-      within : length s ≤ block-limit → p < length s → (r : Step) × StepRow rule s p r
+      within : length s ≤ blockLimit → p < length s → (r : Step) × StepRow rule s p r
       within f h =
           by-test (isStart s p) (λ t. let k = true-start s p (omega arith) t in standing f h k (from-start k))
           (λ t. (S.Refused NotAStart, not-a-start f h (λ k. clash t (start-true k))))

@@ -1,6 +1,6 @@
 -- Document 01, "Blocks, groups and tails".
 --
---   block-limit       the most bytes of a block
+--   blockLimit       the most bytes of a block
 --   isStart s p       p is 0, or stands just past a byte below 128
 --   Val               a number by the rule that it was read by
 --   readBy rule g     the reading of a group by the rule: its number, or the reason why it has none; `valued` says by which rule it was read
@@ -22,8 +22,8 @@ use Rattle.sleb128.specs.Signed.{i64}
 use Rattle.blocks.specs.declared.Rule.{Rule}
 use Rattle.blocks.specs.declared.Rule.the-variants.{Unsigned, Signed}
 
-abbrev pub block-limit : ℕ
-block-limit = 4096
+abbrev pub blockLimit : ℕ
+blockLimit = 4096
 
 unfoldable pub isStart : List ℕ → ℕ → Bool
 isStart s p = either (eqb p 0) (ltb (getD s (p - 1) 0) 128)
@@ -58,7 +58,7 @@ saysBy rule g p = says (readBy rule g) (length g) p
 
 unfoldable pub stepping : Rule → List ℕ → ℕ → Stepped
 stepping rule s p =
-    pick (ltb block-limit (length s)) (refuses (by 7))
+    pick (ltb blockLimit (length s)) (refuses (by 7))
     (pick (ltb (length s) p) (refuses (by 4))
     (pick (leb (length s) p) (finished p)
     (pick (not (isStart s p)) (refuses (by 6))
@@ -67,7 +67,7 @@ stepping rule s p =
 
 unfoldable pub settingDown : List ℕ → ℕ → Answer ℕ
 settingDown s p =
-    pick (ltb block-limit (length s)) (refused (by 7))
+    pick (ltb blockLimit (length s)) (refused (by 7))
     (pick (ltb (length s) p) (refused (by 4))
     (pick (eqb p 0) (gives 0)
     (pick (ltb (p - 1 + run (drop (p - 1) s)) (length s)) (gives (p + run (drop (p - 1) s))) (refused (by 8)))))

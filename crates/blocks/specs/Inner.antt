@@ -1,7 +1,7 @@
 -- What the functions inside the crate promise.
 --
 --   meansReading       what a group's reading says
---   read-by rule s p     what the table of the rule's width says of s from the place p on, without the count
+--   readAt rule s p     what the table of the rule's width says of s from the place p on, without the count
 --   ReadsBy rule s p r   r is what a reader of numbers by the rule says at the place p of s
 use Prim.Native.Nat.{ℕ}
 use mathlib.Core.List.{List}
@@ -21,9 +21,9 @@ abbrev pub meansReading : Reading → Answer Val
 meansReading (G.Number v) = gives (meansValue v)
 meansReading (G.Fault why) = refused (because why)
 
-abbrev pub read-by : Rule → List ℕ → ℕ → Answer Val
-read-by Unsigned s p = valued unsigned (read u64 s p)
-read-by Signed s p = valued signed (read i64 s p)
+abbrev pub readAt : Rule → List ℕ → ℕ → Answer Val
+readAt Unsigned s p = valued unsigned (read u64 s p)
+readAt Signed s p = valued signed (read i64 s p)
 
 pub record ReadsBy (rule : Rule) (s : List ℕ) (p : ℕ) (r : Reading) : Type 0 where
-  pub is : meansReading r ≡ read-by rule s p
+  pub is : meansReading r ≡ readAt rule s p

@@ -11,7 +11,7 @@ use Rattle.words.specs.Answer.{Answer, gives, refused, because}
 use Rattle.words.specs.declared.Count.{Count}
 use Rattle.words.specs.declared.Refusal.{Refusal}
 use Rattle.groups.specs.Group.{Bytes}
-use Rattle.blocks.specs.Block.{block-limit, Val, readBy}
+use Rattle.blocks.specs.Block.{Val, readBy, blockLimit}
 use Rattle.blocks.specs.Promise.{meansValue, Steps}
 use Rattle.blocks.specs.declared.Cursor.{Cursor}
 use Rattle.blocks.specs.declared.Rule.{Rule}
@@ -20,7 +20,7 @@ use Rattle.blocks.specs.declared.Value.{Value}
 
 pub record Block (s : List ℕ) : Type 0 where
   pub bytes : Bytes s
-  pub short : length s ≤ block-limit
+  pub short : length s ≤ blockLimit
 
 abbrev pub readings : (ℕ → Rule) → List (ℕ × ℕ × List ℕ) → List (ℕ × ℕ × Answer Val)
 readings f [] = []

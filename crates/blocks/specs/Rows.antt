@@ -11,7 +11,7 @@ use lib.ListN.{length}
 use Rattle.words.specs.Answer.{Answer, gives, refused, because}
 use Rattle.words.specs.declared.Refusal.{Refusal}
 use Rattle.words.specs.declared.Refusal.the-variants.{Place, NotAStart, TooLong, NoStart}
-use Rattle.blocks.specs.Block.{block-limit, Val, readBy}
+use Rattle.blocks.specs.Block.{Val, readBy, blockLimit}
 use Rattle.blocks.specs.GroupsAndTail.{Start, GroupAt, TailAt}
 use Rattle.blocks.specs.Promise.{meansValue}
 use Rattle.blocks.specs.declared.Rule.{Rule}
@@ -29,21 +29,21 @@ pub record GroupReads (rule : Rule) (s : List ℕ) (p : ℕ) (a : Answer Val) (n
   pub next : q ≡ p + length group
 
 pub data StepRefused (s : List ℕ) (p : ℕ) : Refusal → Type 0 where
-  too-long : block-limit < length s → StepRefused s p TooLong
-  past : length s ≤ block-limit → length s < p → StepRefused s p Place
-  not-a-start : length s ≤ block-limit → p < length s → (Start s p → ⊥) → StepRefused s p NotAStart
+  too-long : blockLimit < length s → StepRefused s p TooLong
+  past : length s ≤ blockLimit → length s < p → StepRefused s p Place
+  not-a-start : length s ≤ blockLimit → p < length s → (Start s p → ⊥) → StepRefused s p NotAStart
 
 abbrev pub StepRow : Rule → List ℕ → ℕ → Step → Type 0
-StepRow rule s p (S.Number v n c) = (length s ≤ block-limit) × GroupReads rule s p (gives (meansValue v)) (n .0) (c .place .0)
-StepRow rule s p (S.Gap why n c) = (length s ≤ block-limit) × GroupReads rule s p (refused (because why)) (n .0) (c .place .0)
-StepRow rule s p (S.Tail n c) = (length s ≤ block-limit) × TailAt s p × (p + n .0 ≡ length s) × (c .place .0 ≡ p)
-StepRow rule s p (S.Finished c) = (length s ≤ block-limit) × (p ≡ length s) × (c .place .0 ≡ p)
+StepRow rule s p (S.Number v n c) = (length s ≤ blockLimit) × GroupReads rule s p (gives (meansValue v)) (n .0) (c .place .0)
+StepRow rule s p (S.Gap why n c) = (length s ≤ blockLimit) × GroupReads rule s p (refused (because why)) (n .0) (c .place .0)
+StepRow rule s p (S.Tail n c) = (length s ≤ blockLimit) × TailAt s p × (p + n .0 ≡ length s) × (c .place .0 ≡ p)
+StepRow rule s p (S.Finished c) = (length s ≤ blockLimit) × (p ≡ length s) × (c .place .0 ≡ p)
 StepRow rule s p (S.Refused why) = StepRefused s p why
 
 pub data SetDownRefused (s : List ℕ) (p : ℕ) : Refusal → Type 0 where
-  too-long : block-limit < length s → SetDownRefused s p TooLong
-  past : length s ≤ block-limit → length s < p → SetDownRefused s p Place
-  no-start : length s ≤ block-limit → p ≤ length s → ((q : ℕ) → p ≤ q → Start s q → ⊥) → SetDownRefused s p NoStart
+  too-long : blockLimit < length s → SetDownRefused s p TooLong
+  past : length s ≤ blockLimit → length s < p → SetDownRefused s p Place
+  no-start : length s ≤ blockLimit → p ≤ length s → ((q : ℕ) → p ≤ q → Start s q → ⊥) → SetDownRefused s p NoStart
 
 -- q is the least start at p or later
 pub record Least (s : List ℕ) (p q : ℕ) : Type 0 where
@@ -52,5 +52,5 @@ pub record Least (s : List ℕ) (p q : ℕ) : Type 0 where
   pub none-before : (j : ℕ) → p ≤ j → j < q → Start s j → ⊥
 
 abbrev pub SetDownRow : List ℕ → ℕ → SetDown → Type 0
-SetDownRow s p (D.At c) = (length s ≤ block-limit) × Least s p (c .place .0)
+SetDownRow s p (D.At c) = (length s ≤ blockLimit) × Least s p (c .place .0)
 SetDownRow s p (D.Refused why) = SetDownRefused s p why

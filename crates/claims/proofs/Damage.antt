@@ -13,7 +13,7 @@ use Rattle.blocks.specs.Block.{Val, saysBy}
 use Rattle.blocks.specs.Promise.{meansStep, Steps}
 use Rattle.blocks.specs.declared.Step.{Step}
 use Rattle.blocks.specs.GroupsAndTail.{cut, GroupAt}
-use Rattle.blocks.proofs.Cuts.{total, all-bytes, Some, some-each}
+use Rattle.blocks.proofs.Cut.{total, all-bytes, Some, some-each}
 use Rattle.blocks.specs.declared.Rule.{Rule}
 use Rattle.blocks.specs.Places.{placed, listed, ending, from, less}
 use Rattle.blocks.specs.Readings.{Block, readings, ReaderGives}
@@ -28,13 +28,13 @@ use Rattle.blocks.proofs.StepRows.{says-group}
 said : {rule : Rule} {s : List ℕ} {p : ℕ} {g : List ℕ} {r : Step} → Block s → GroupAt s p g → Steps rule s p r → meansStep r ≡ saysBy rule g p
 said {rule} {s} {p} {g} block k w = w .is ∙ sym (says-group rule s p g (block .short) k)
 
-pub front : Front
-front a x y b p g h =
+pub damage-front : Front
+damage-front a x y b p g h =
     let there : GroupAt (a ++ x ++ b) p g ↔ GroupAt (a ++ y ++ b) p g = ends-before groups-local a x y b p g (omega arith) in
     (there, λ rule r r′ old new k w w′. same-step r r′ (said old k w ∙ sym (said new (there .0 k) w′)))
 
-pub back : Back
-back a x y b p p′ g h e =
+pub damage-back : Back
+damage-back a x y b p p′ g h e =
     let there : GroupAt (a ++ x ++ b) p g ↔ GroupAt (a ++ y ++ b) p′ g = begins-behind groups-local a x y b p p′ g (omega arith) e in
     (there, λ rule r r′ old new k w w′. (said old k w, said new (there .0 k) w′))
 
@@ -63,8 +63,8 @@ moved f f′ n n′ p (g ∷ gs) e =
     let j′ : n′ + p + length g ≡ n′ + (p + length g) = omega arith in
     rw (i, i′, j, j′, e p, moved f f′ n n′ (p + length g) gs e)
 
-pub front-read : FrontRead
-front-read a x y b f f′ l l′ old new e k k′ = part f x l old k ∙ alike f f′ (length a) 0 (cut a .groups) (some-each a) (omega (arith, all-bytes a)) e ∙ sym (part f′ y l′ new k′)
+pub damage-front-read : FrontRead
+damage-front-read a x y b f f′ l l′ old new e k k′ = part f x l old k ∙ alike f f′ (length a) 0 (cut a .groups) (some-each a) (omega (arith, all-bytes a)) e ∙ sym (part f′ y l′ new k′)
   where
     part : (f : ℕ → Rule) (z : List ℕ) (l : List (ℕ × ℕ × Answer Val)) → Block (a ++ z ++ b) → ReaderGives f (a ++ z ++ b) 0 l → ending 0 (length a) l ≡ readings f (listed a)
     part f z l k r =
@@ -72,8 +72,8 @@ front-read a x y b f f′ l l′ old new e k k′ = part f x l old k ∙ alike f
         (readings-ending f 0 (length a) (listed (a ++ z ++ b))
         ∙ ap (λ (s : List ℕ). readings f (ending 0 (length a) (listed s))) (append-assoc a z b) ∙ ap (readings f) (ends-within a (z ++ b)))
 
-pub back-read : BackRead
-back-read a x y b f f′ l l′ old new e k k′ =
+pub damage-back-read : BackRead
+damage-back-read a x y b f f′ l l′ old new e k k′ =
     let n = length (a ++ x) + run b + 1 in
     let n′ = length (a ++ y) + run b + 1 in
     let z : n + 0 ≡ n = omega arith in

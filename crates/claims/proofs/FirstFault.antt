@@ -18,12 +18,12 @@ use Rattle.groups.specs.Group.{Bytes, High, Group, run}
 use Rattle.groups.specs.Width.{reading}
 use Rattle.groups.proofs.Exact.{group-length}
 use Rattle.groups.proofs.Run.{run-within, all-high, high-all}
-use Rattle.groups.proofs.Standing.{front-group, reading-count, run-behind}
+use Rattle.groups.proofs.Stands.{front-group, reading-count, run-behind}
 use Rattle.uleb128.specs.Unsigned.{form, u64}
 use Rattle.lists.specs.Lists.{forms}
 use Rattle.lists.specs.Strict.{joined, numbers}
-use Rattle.lists.proofs.Fronts.{numbers-group, numbers-tail, numbers-none}
-use Rattle.claims.specs.Readers.{loop64, OfWidth}
+use Rattle.lists.proofs.NumbersInFront.{numbers-group, numbers-tail, numbers-none}
+use Rattle.claims.specs.Kinds.{loop64, OfWidth}
 use Rattle.claims.specs.Table.{Row, GapRow}
 use Rattle.claims.specs.OfLists.{Of64Bits, IsForms, Fault, FirstFault}
 use Rattle.claims.proofs.ReadGroup.{from-front, group-bytes, empty, read-group}

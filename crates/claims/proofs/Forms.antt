@@ -17,14 +17,14 @@ use Rattle.words.proofs.Cases.{by-order, by-test}
 use Rattle.groups.specs.Group.{Group, digits, run}
 use Rattle.groups.specs.Width.{tooMany}
 use Rattle.groups.proofs.Run.{at-run, digits-below}
-use Rattle.groups.proofs.Spelling.{some-bytes, short, small-enough, spelled-group}
+use Rattle.groups.proofs.Spelling.{some-bytes, small-enough, spelled-group, spelled-short}
 use Rattle.groups.proofs.Exact.{group-length, longer, shortest}
 use Rattle.uleb128.specs.Unsigned as unsigned
 use Rattle.uleb128.proofs.Forms.{form-small, form-large}
 use Rattle.sleb128.specs.Signed.{twos, form, i64}
 use Rattle.sleb128.proofs.Forms.{form-spelled}
 use Rattle.sleb128.proofs.Widths.{spells, pow-seven, half-seven}
-use Rattle.sleb128.proofs.Exactly.{value-above, value-below, form-value}
+use Rattle.sleb128.proofs.ReadsForms.{value-above, value-below, form-value}
 use Rattle.claims.specs.OfNumbers.{Shortest, TwosComplement, Within, SignedForm}
 use Rattle.claims.proofs.Readers.{within, within-mag}
 
@@ -75,7 +75,7 @@ signed-form v =
       is-group = spelled-group (omega arith) p;
       value = form-value v;
       within = within-length v (length (form v)) some (small-enough (omega arith) (length (form v) - 1) p (omega arith));
-      smallest = λ k h w. let n = short (omega arith) (k - 1) p (length-within v k h w) in omega arith;
+      smallest = λ k h w. let n = spelled-short (omega arith) (k - 1) p (length-within v k h w) in omega arith;
       only = λ g r e n.
           by-test (tooMany i64 g)
           (λ t. let l = one-too-many r .0 t in let m : length (form (i64 .value g)) ≡ length (form v) = ap (λ (x : ℤ). length (form x)) e in
@@ -85,4 +85,4 @@ signed-form v =
 
 -- a signed number of 64 bits takes at most ten bytes
 pub signed-most : (v : ℤ) → mag v < 2 ^ 63 → length (form v) ≤ 10
-signed-most v h = short (omega arith) 9 (form-spelled v) (omega arith)
+signed-most v h = spelled-short (omega arith) 9 (form-spelled v) (omega arith)

@@ -17,7 +17,7 @@ use Rattle.words.specs.declared.Count.{Count}
 use Rattle.words.specs.declared.Written.the-variants as W
 use Rattle.groups.specs.Form.{spell, spellings}
 use Rattle.groups.specs.Group.{Bytes, Group, one, run, digits}
-use Rattle.words.specs.Laying.{writing, laid}
+use Rattle.words.specs.Lays.{writing, laid}
 use Rattle.groups.specs.Width.{runsOut, tooLarge, tooMany, reading, read}
 use Rattle.uleb128.specs.Unsigned as unsigned
 use Rattle.sleb128.specs.Signed as signed
@@ -27,11 +27,10 @@ use Rattle.blocks.specs.declared.Cursor.{Cursor}
 use Rattle.blocks.specs.declared.SetDown.the-variants as D
 use Rattle.lists.specs.Lists.{forms}
 use Rattle.lists.specs.Promise.{WritesList}
-use Rattle.claims.specs.Readers.{Reader, loop64, recursive64, unsigned32, signed64, number, Promised, width}
-use Rattle.claims.specs.Writers.{Laying}
+use Rattle.claims.specs.Kinds.{Kind, loop64, recursive64, unsigned32, signed64, number, ReadsAs, width, WritesAs}
 use Rattle.blocks.specs.GroupsAndTail.{GroupAt}
 use Rattle.blocks.specs.Readings.{Block}
-use Rattle.claims.specs.OfNumbers.{zero-of}
+use Rattle.claims.specs.OfNumbers.{zeroOf}
 use Rattle.claims.proofs.Readers.{number-says}
 
 abbrev count : ℕ → Count
@@ -41,22 +40,22 @@ abbrev cursor : ℕ → Cursor
 cursor p = record { place = record { 0 = p } }
 
 module _ where
-  written : (k : Reader) → Laying k (zero-of k) (1 ∷ []) 0 (W.Bytes (count 1)) (0 ∷ [])
+  written : (k : Kind) → WritesAs k (zeroOf k) (1 ∷ []) 0 (W.Bytes (count 1)) (0 ∷ [])
   unfolding unsigned.form signed.form spell spellings writing laid
   written loop64 = record { answer = refl; leaves = refl }
   written recursive64 = record { answer = refl; leaves = refl }
   written unsigned32 = record { answer = refl; leaves = refl }
   written signed64 = record { answer = refl; leaves = refl }
 
-  reads-zero : (k : Reader) → read (width k) (0 ∷ []) 0 ≡ gives (zero-of k, 1)
+  reads-zero : (k : Kind) → read (width k) (0 ∷ []) 0 ≡ gives (zeroOf k, 1)
   unfolding read reading runsOut tooLarge tooMany run digits signed.twos
   reads-zero loop64 = refl
   reads-zero recursive64 = refl
   reads-zero unsigned32 = refl
   reads-zero signed64 = refl
 
-  read-back : (k : Reader) → Promised k (0 ∷ []) 0 (number k (zero-of k) (count 1))
-  read-back k = number-says k (0 ∷ []) 0 (zero-of k) (count 1) .1 (reads-zero k)
+  read-back : (k : Kind) → ReadsAs k (0 ∷ []) 0 (number k (zeroOf k) (count 1))
+  read-back k = number-says k (0 ∷ []) 0 (zeroOf k) (count 1) .1 (reads-zero k)
 
   list : WritesList (0 ∷ []) (1 ∷ []) 0 (W.Bytes (count 1)) (0 ∷ [])
   unfolding forms unsigned.form spell spellings writing laid

@@ -10,17 +10,17 @@ use Rattle.words.specs.Answer.{gives, meansWritten}
 use Rattle.words.specs.declared.Count.{Count}
 use Rattle.words.specs.declared.Written.the-variants as W
 use Rattle.words.proofs.Cases.{by-order}
-use Rattle.blocks.specs.Block.{block-limit}
+use Rattle.blocks.specs.Block.{blockLimit}
 use Rattle.groups.specs.Group.{run}
 use Rattle.groups.specs.Width.{reading}
-use Rattle.groups.proofs.Standing.{reading-count}
+use Rattle.groups.proofs.Stands.{reading-count}
 use Rattle.uleb128.specs.Unsigned.{form, u64}
-use Rattle.lists.specs.Lists.{list-limit, forms}
+use Rattle.lists.specs.Lists.{forms, listLimit}
 use Rattle.lists.specs.Strict.{joined, numbers, strict, filled}
-use Rattle.lists.proofs.Fronts.{numbers-group, numbers-none}
+use Rattle.lists.proofs.NumbersInFront.{numbers-group, numbers-none}
 use Rattle.lists.specs.Promise.{WritesList}
 use Rattle.lists.specs.declared.ReadList.the-variants as L
-use Rattle.claims.specs.Readers.{loop64}
+use Rattle.claims.specs.Kinds.{loop64}
 use Rattle.claims.specs.OfLists.{ListBack, Of64Bits}
 use Rattle.claims.proofs.ReadGroup.{from-front}
 use Rattle.lists.proofs.OneList.{same-list}
@@ -57,11 +57,11 @@ numbers-forms [] h = numbers-none [] refl
 numbers-forms (v ∷ ns) h = numbers-ahead v (forms ns) (h .0) ∙ rw (numbers-forms ns (h .1))
 
 -- what strict reading leaves of a block without a fault, for which there is room
-pub strictly : (s ns old : List ℕ) → length s ≤ block-limit → numbers s ≡ gives ns → length ns ≤ length old
+pub strictly : (s ns old : List ℕ) → length s ≤ blockLimit → numbers s ≡ gives ns → length ns ≤ length old
     → (strict s (length old) ≡ gives (length ns)) × (filled s old ≡ ns ++ drop (length ns) old)
 unfolding strict filled
 strictly s ns old short e room =
-    let t = le-ltb block-limit (length s) short in
+    let t = le-ltb blockLimit (length s) short in
     let f = le-leb (length ns) (length old) room in
     (rw (t, e, f), rw (t, e, f))
 
@@ -70,7 +70,7 @@ written-there : (ns before : List ℕ) (at : ℕ) (n : Count) (after : List ℕ)
     → (n .0 ≡ length (forms ns)) × (take (n .0) (drop at after) ≡ forms ns)
 written-there ns before at n after w =
     let rows = writes-list ns before at (W.Bytes n) after w in
-    by-order list-limit (length ns) (λ h. apart (ap meansWritten (rows .0 .0 h .0)))
+    by-order listLimit (length ns) (λ h. apart (ap meansWritten (rows .0 .0 h .0)))
     (λ short. by-order (length before) (at + length (forms ns))
     (λ h. apart (ap meansWritten (rows .1 short .1 .0 h .0)))
     (λ h.
@@ -86,6 +86,6 @@ written-there ns before at n after w =
 pub list-back : ListBack
 list-back ns before at n after old r out words w short room p =
     let k = written-there ns before at n after w in
-    let b : length (take (n .0) (drop at after)) ≤ block-limit = rw (k .1) (rw (k .0) at short) in
+    let b : length (take (n .0) (drop at after)) ≤ blockLimit = rw (k .1) (rw (k .0) at short) in
     let q = strictly (take (n .0) (drop at after)) ns old b (ap numbers (k .1) ∙ numbers-forms ns words) room in
     (same-list r (L.Filled (record { 0 = length ns })) (p .answer ∙ q .0), p .leaves ∙ q .1)

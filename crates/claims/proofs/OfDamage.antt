@@ -1,13 +1,13 @@
 -- What is claimed of damage, proved.
-use Rattle.claims.proofs.Damage.{front, back, front-read, back-read}
+use Rattle.claims.proofs.Damage.{damage-front, damage-back, damage-front-read, damage-back-read}
 use Rattle.claims.proofs.ReaderSetDown.{front-lost}
 use Rattle.claims.specs.OfDamage.{OfDamage}
 
 pub damage : OfDamage
 damage = record {
-  damage-front = front;
-  damage-back = back;
-  damage-front-read = front-read;
-  damage-back-read = back-read;
+  damage-front = damage-front;
+  damage-back = damage-back;
+  damage-front-read = damage-front-read;
+  damage-back-read = damage-back-read;
   front-lost = front-lost;
 }

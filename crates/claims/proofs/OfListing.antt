@@ -5,16 +5,16 @@ use lib.ListN.{length, take}
 use lib.Seq.{sets}
 use Rattle.listing.specs.Promise.{meansListing, asked, fronted}
 use Rattle.listing.proofs.OneNext.{same-next}
-use Rattle.claims.proofs.Text.{found-line, lists, enough, document}
+use Rattle.claims.proofs.Text.{found-line, gives-text, front-enough, text-document}
 use Rattle.texts.proofs.Decimals.{decimal-small, decimal-large}
 use Rattle.claims.specs.OfListing.{OfListing}
 
 pub listing : OfListing
 listing = record {
   digits = λ v. (decimal-small v, decimal-large v);
-  listing = lists;
-  listing-front = enough;
-  listing-document = document;
+  listing = gives-text;
+  listing-front = front-enough;
+  listing-document = text-document;
   met = record {
     text = λ t s at. ((at + length (take (length s - at) t), sets s at (take (length s - at) t)), record { place = refl; bytes = refl });
     line = λ g s before bytes. let f = found-line g s before bytes in ((f .0, fronted (asked s (meansListing g) (length before)) before), f .1);

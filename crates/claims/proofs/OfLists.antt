@@ -8,23 +8,23 @@ use Rattle.words.specs.declared.Refusal.the-variants.{TooLong}
 use Rattle.words.specs.declared.Written.{Written}
 use Rattle.words.specs.declared.Written.the-variants as W
 use Rattle.words.proofs.Cases.{by-order}
-use Rattle.lists.specs.Lists.{list-limit, forms}
+use Rattle.lists.specs.Lists.{forms, listLimit}
 use Rattle.lists.specs.Promise.{WritesList}
 use Rattle.lists.proofs.OneList.{same-list}
 use Rattle.words.proofs.OneMeaning.{same-written}
-use Rattle.claims.proofs.StrictRows.{row-reads, row-found as strict-found, strict-rows}
+use Rattle.claims.proofs.StrictRows.{strict-rows, strict-row-kept, some-strict-row as strict-found}
 use Rattle.claims.proofs.RoundTrips.{writes-list}
 use Rattle.claims.proofs.ListBack.{list-back}
-use Rattle.words.proofs.Laying.{some-lays}
-use Rattle.claims.specs.Writers.{Both}
+use Rattle.words.proofs.Lays.{some-lays}
+use Rattle.claims.specs.Kinds.{Both}
 use Rattle.claims.specs.OfLists.{OfLists}
 
 some-list : (ns s : List ℕ) (at : ℕ) → (x : Written × List ℕ) × Both (WritesList ns s at) x
 some-list ns s at =
-    by-order list-limit (length ns)
-    (λ h. let t = lt-ltb list-limit (length ns) h in ((W.Refused TooLong, s), record { answer = rw t; leaves = rw t }))
+    by-order listLimit (length ns)
+    (λ h. let t = lt-ltb listLimit (length ns) h in ((W.Refused TooLong, s), record { answer = rw t; leaves = rw t }))
     (λ h.
-    let t = le-ltb list-limit (length ns) h in
+    let t = le-ltb listLimit (length ns) h in
     let f = some-lays (forms ns) s at in
     (f .0, record { answer = rw t (f .1 .answer); leaves = rw t (f .1 .leaves) }))
 
@@ -34,7 +34,7 @@ lists = record {
   writes-list = writes-list;
   list-back = list-back;
   met = record {
-    strict = λ s old bytes. let f = strict-found s old bytes in (f .0, row-reads s old (f .0) (f .1));
+    strict = λ s old bytes. let f = strict-found s old bytes in (f .0, strict-row-kept s old (f .0) (f .1));
     list = some-list;
   };
   one = record {

@@ -4,17 +4,16 @@ use mathlib.Core.Path.{_≡_, refl, ap, sym, _∙_}
 use mathlib.Core.List.{List, [], _∷_}
 use lib.ListN.{length}
 use Rattle.words.specs.Refusal.{numberOf}
-use Rattle.words.specs.Laying.{fits}
+use Rattle.words.specs.Lays.{fits}
 use Rattle.words.specs.declared.Count.{Count}
 use Rattle.words.specs.declared.Written.{Written}
 use Rattle.groups.specs.Form.{groups, spell, spellings}
 use Rattle.groups.specs.Promise.{walked}
 use Rattle.uleb128.specs.Unsigned as unsigned
 use Rattle.sleb128.specs.Signed as signed
-use Rattle.claims.specs.Readers.{Reader, loop64, recursive64, unsigned32, signed64, Value, Reply, number, refuse, Promised, width, form}
-use Rattle.claims.specs.Writers.{Laying, Length, Both}
+use Rattle.claims.specs.Kinds.{Kind, loop64, recursive64, unsigned32, signed64, Value, Reply, number, refuse, ReadsAs, width, form, WritesAs, TakesAs, Both}
 use Rattle.claims.proofs.Readers.{number-says, refusal-says, one-reply, accepts, refuses, excludes, exhausts, within, within-mag}
-use Rattle.claims.proofs.RoundTrips.{lays as lays-form, writes, write-read, read-write, more-behind, some-byte}
+use Rattle.claims.proofs.RoundTrips.{writes, write-read, read-write, more-behind, some-byte, lays-form as lays-form}
 use Rattle.groups.proofs.Rows.{read-cases}
 use native.Mathlib.Nat.{lt-trans}
 use native.Mathlib.Omega.{arith}
@@ -27,50 +26,50 @@ use Rattle.sleb128.proofs.Forms.{form-spelled}
 use Rattle.claims.specs.Try.{Starred}
 use Rattle.claims.proofs.Forms.{two-sentences, twos-complement, signed-form, one-too-many, signed-most}
 use Rattle.claims.proofs.Source.{parse-same, serialize-same}
-use Rattle.words.proofs.Laying.{some-lays}
+use Rattle.words.proofs.Lays.{some-lays}
 use Rattle.words.proofs.OneMeaning.{same-lays}
-use Rattle.claims.specs.OfNumbers.{Most, zero-of, OfNumbers}
+use Rattle.claims.specs.OfNumbers.{Most, OfNumbers, zeroOf}
 
-some-written : (k : Reader) (v : Value k) (s : List ℕ) (at : ℕ) → (x : Written × List ℕ) × Both (Laying k v s at) x
+some-written : (k : Kind) (v : Value k) (s : List ℕ) (at : ℕ) → (x : Written × List ℕ) × Both (WritesAs k v s at) x
 some-written loop64 v s at = some-lays (unsigned.form v) s at
 some-written recursive64 v s at = some-lays (unsigned.form v) s at
 some-written unsigned32 v s at = some-lays (unsigned.form v) s at
 some-written signed64 v s at = some-lays (signed.form v) s at
 
-some-length : (k : Reader) (v : Value k) → (n : Count) × Length k v n
+some-length : (k : Kind) (v : Value k) → (n : Count) × TakesAs k v n
 some-length loop64 v = (record { 0 = length (unsigned.form v) }, record { is = refl })
 some-length recursive64 v = (record { 0 = length (unsigned.form v) }, record { is = refl })
 some-length unsigned32 v = (record { 0 = length (unsigned.form v) }, record { is = refl })
 some-length signed64 v = (record { 0 = length (signed.form v) }, record { is = refl })
 
 -- what a reader answers
-some-reply : (k : Reader) (s : List ℕ) (at : ℕ) → (r : Reply k) × Promised k s at r
+some-reply : (k : Kind) (s : List ℕ) (at : ℕ) → (r : Reply k) × ReadsAs k s at r
 some-reply k s at =
     read-cases (width k) s at
     (λ v n e. (number k v (record { 0 = n }), number-says k s at v (record { 0 = n }) .1 e))
     (λ why e. (refuse k why, refusal-says k s at why .1 e))
 
-pub length-is : (k : Reader) (v : Value k) (n : Count) → Length k v n → n .0 ≡ length (form k v)
+pub length-is : (k : Kind) (v : Value k) (n : Count) → TakesAs k v n → n .0 ≡ length (form k v)
 length-is loop64 v n p = p .is
 length-is recursive64 v n p = p .is
 length-is unsigned32 v n p = p .is
 length-is signed64 v n p = p .is
 
-zero-takes-one : (k : Reader) → form k (zero-of k) ≡ 0 ∷ []
+zero-takes-one : (k : Kind) → form k (zeroOf k) ≡ 0 ∷ []
 unfolding unsigned.form signed.form spell spellings
 zero-takes-one loop64 = refl
 zero-takes-one recursive64 = refl
 zero-takes-one unsigned32 = refl
 zero-takes-one signed64 = refl
 
-most : (k : Reader) → Most k
+most : (k : Kind) → Most k
 unfolding unsigned.form signed.form spell spellings
 most loop64 = (λ v h. form-short v 9 (lt-trans h (omega arith)), (2 ^ 64 - 1, omega arith, refl))
 most recursive64 = (λ v h. form-short v 9 (lt-trans h (omega arith)), (2 ^ 64 - 1, omega arith, refl))
 most unsigned32 = (λ v h. form-short v 4 (lt-trans h (omega arith)), (2 ^ 32 - 1, omega arith, refl))
 most signed64 = (λ v h. signed-most v (within-mag v (2 ^ 63) (omega arith) (h .0) (h .1)), (pos (2 ^ 63 - 1), within (pos (2 ^ 63 - 1)) (2 ^ 63) (omega arith), refl))
 
-some-bytes-of : (k : Reader) (v : Value k) → 0 < length (form k v)
+some-bytes-of : (k : Kind) (v : Value k) → 0 < length (form k v)
 some-bytes-of loop64 v = form-some v
 some-bytes-of recursive64 v = form-some v
 some-bytes-of unsigned32 v = form-some v

@@ -8,14 +8,11 @@ use mathlib.Core.Logic.{_↔_}
 use native.Mathlib.Omega.{arith}
 use lib.Dec.{T, ltb, lt→ltb, ltb→lt}
 use lib.IntN.{ℤ, pos, negsuc}
-use Rattle.turns.specs.Turns.{Means}
+use Rattle.turns.specs.Turns.{Means, turnOf}
 use Rattle.turns.specs.declared.Turn.{Turn}
 use Rattle.turns.specs.declared.Turn.the-variants.{Tighten, Loosen, Hold}
-use Rattle.claims.specs.OfTurns.{TurnRow}
+use Rattle.claims.specs.OfTurns.{TurnRow, OfTurns}
 use Rattle.words.proofs.OneMeaning.{by-rows}
-use mathlib.Core.Path.{refl, sym, _∙_}
-use Rattle.turns.specs.Turns.{turnOf}
-use Rattle.claims.specs.OfTurns.{OfTurns}
 
 not-below : (n : ℕ) → T (ltb n 0) → ⊥
 not-below n t = let h = ltb→lt n 0 t in omega arith

@@ -15,7 +15,7 @@ use Rattle.words.specs.declared.Refusal.{Refusal}
 use Rattle.groups.specs.Group.{Bytes, Group, one, more}
 use Rattle.groups.specs.Width.{Width, reading, read}
 use Rattle.groups.proofs.Exact.{group-length}
-use Rattle.claims.specs.Readers.{Reader, Value, width, form, OfWidth}
+use Rattle.claims.specs.Kinds.{Kind, Value, width, form, OfWidth}
 use Rattle.claims.specs.Table.{Row, GapRow}
 use Rattle.claims.specs.OfBlocks.{ReadGroup}
 use Rattle.claims.proofs.Readers.{reading-of, read-row}
@@ -36,7 +36,7 @@ group-bytes (one h) (suc i) = omega arith
 group-bytes (more h b k) zero = b
 group-bytes (more h b k) (suc i) = group-bytes k i
 
-module _ (k : Reader) (g : List ℕ) where
+module _ (k : Kind) (g : List ℕ) where
   is-form : (v : Value k) → Group g → reading (width k) g ≡ gives (v, length g) → OfWidth k v × (g ≡ form k v)
   is-form v group e =
       let b = reading-of k .begins g 0 v (length g) (group-bytes group) (from-front (width k) g ∙ e) in

@@ -13,14 +13,14 @@ use Rattle.words.proofs.Cases.{by-order}
 use Rattle.groups.specs.Group.{run}
 use Rattle.blocks.specs.GroupsAndTail.{cut, Start}
 use Rattle.blocks.specs.declared.SetDown.the-variants as D
-use Rattle.blocks.proofs.Cuts.{nothing-left}
+use Rattle.blocks.proofs.Cut.{nothing-left}
 use Rattle.blocks.specs.Places.{placed, listed, from, less}
 use Rattle.blocks.specs.Rows.{Least}
 use Rattle.blocks.specs.Rows.SetDownRefused.{no-start}
 use Rattle.blocks.specs.Readings.{Block}
 use Rattle.claims.specs.OfBlocks.{ReaderFrom, ReaderSetDown}
 use Rattle.claims.specs.OfDamage.{FrontLost}
-use Rattle.blocks.proofs.Places.{from-placed, begins-from, lessened}
+use Rattle.blocks.proofs.Places.{from-placed, begins-from, less-placed}
 use Rattle.blocks.proofs.SetDownRows.{set-down-rows, not-before, start-there}
 use Rattle.blocks.proofs.Readings.{reads-exactly, as-groups}
 
@@ -96,5 +96,5 @@ front-lost f o k c l bytes a =
     let m : Least s 1 (c .place .0) = w .1 in
     let block : Block s = record { bytes = λ i. rw (getD-drop k o i 0) (bytes (k + i)); short = w .0 } in
     let e : less k (from (k + q) (listed o)) ≡ placed q (cut (drop q s) .groups) =
-    ap (less k) (from-placed o (k + q) (start-behind o k q (m .from) (m .start))) ∙ lessened k q (cut (drop (k + q) o) .groups) ∙ rw (drop-drop q k o) in
+    ap (less k) (from-placed o (k + q) (start-behind o k q (m .from) (m .start))) ∙ less-placed k q (cut (drop (k + q) o) .groups) ∙ rw (drop-drop q k o) in
     as-groups f e (reads-exactly f s block q l (m .start))

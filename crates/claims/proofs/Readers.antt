@@ -13,18 +13,18 @@ use Rattle.words.specs.declared.Refusal.{Refusal}
 use Rattle.groups.specs.Begins.{Begins}
 use Rattle.groups.specs.Group.{Bytes}
 use Rattle.groups.specs.Width.{Width, read, Due}
-use Rattle.groups.proofs.Rows.{keeps}
-use Rattle.groups.proofs.Walks.{Sound}
-use Rattle.groups.proofs.Standing.{Stands, standing}
+use Rattle.groups.proofs.Rows.{due-kept}
+use Rattle.groups.proofs.FromWalk.{Sound}
+use Rattle.groups.proofs.Stands.{Stands, stands-read}
 use Rattle.uleb128.specs.Unsigned as unsigned
 use Rattle.uleb128.proofs.Widths as unsigned-widths
-use Rattle.uleb128.proofs.Exactly.{Under, read-begins, begins-read}
+use Rattle.uleb128.proofs.ReadsForms.{Under, read-begins, begins-read}
 use Rattle.sleb128.proofs.Widths as signed-widths
-use Rattle.sleb128.proofs.Exactly as signed-exactly
+use Rattle.sleb128.proofs.ReadsForms as signed-exactly
 use Rattle.uleb128.specs.declared.ReadU64.the-variants as R64
 use Rattle.uleb128.specs.declared.ReadU32.the-variants as R32
 use Rattle.sleb128.specs.declared.ReadI64.the-variants as RI64
-use Rattle.claims.specs.Readers.{Reader, loop64, recursive64, unsigned32, signed64, Value, Reply, number, refuse, Promised, width, form, OfWidth}
+use Rattle.claims.specs.Kinds.{Kind, loop64, recursive64, unsigned32, signed64, Value, Reply, number, refuse, ReadsAs, width, form, OfWidth}
 use Rattle.claims.specs.Table.{Row}
 use Rattle.claims.specs.OfNumbers.{Accepts, Refuses, Excludes, Exhausts}
 use Rattle.words.proofs.OneMeaning.{apart, refused-same, given-value, given-count, same-both}
@@ -65,7 +65,7 @@ signed-reading = record {
   begun = λ s at v n b. signed-exactly.begins-read s at (rewidth (λ l. within-mag v (2 ^ 63) (omega arith) (l .0) (l .1)) b);
 }
 
-pub reading-of : (k : Reader) → Reading (width k) (form k) (OfWidth k)
+pub reading-of : (k : Kind) → Reading (width k) (form k) (OfWidth k)
 reading-of loop64 = unsigned-reading 10 1 (omega arith) (omega arith)
 reading-of recursive64 = unsigned-reading 10 1 (omega arith) (omega arith)
 reading-of unsigned32 = unsigned-reading 5 15 (omega arith) (omega arith)
@@ -73,22 +73,22 @@ reading-of signed64 = signed-reading
 
 -- what the promise of a number and of a refusal says of the reading
 due-is : {A : Type 0} {b a : Answer A} → Due b a ↔ (b ≡ a)
-due-is = (λ p. sym (p .is), keeps)
+due-is = (λ p. sym (p .is), due-kept)
 
-pub number-says : (k : Reader) (s : List ℕ) (at : ℕ) (v : Value k) (n : Count) → Promised k s at (number k v n) ↔ (read (width k) s at ≡ gives (v, n .0))
+pub number-says : (k : Kind) (s : List ℕ) (at : ℕ) (v : Value k) (n : Count) → ReadsAs k s at (number k v n) ↔ (read (width k) s at ≡ gives (v, n .0))
 number-says loop64 s at v n = due-is
 number-says recursive64 s at v n = due-is
 number-says unsigned32 s at v n = due-is
 number-says signed64 s at v n = due-is
 
-pub refusal-says : (k : Reader) (s : List ℕ) (at : ℕ) (why : Refusal) → Promised k s at (refuse k why) ↔ (read (width k) s at ≡ refused (because why))
+pub refusal-says : (k : Kind) (s : List ℕ) (at : ℕ) (why : Refusal) → ReadsAs k s at (refuse k why) ↔ (read (width k) s at ≡ refused (because why))
 refusal-says loop64 s at why = due-is
 refusal-says recursive64 s at why = due-is
 refusal-says unsigned32 s at why = due-is
 refusal-says signed64 s at why = due-is
 
 -- an answer that a reader promises is one of its numbers or of its refusals, and what is read says the same
-pub reply-cases : {X : Type 0} (k : Reader) (s : List ℕ) (at : ℕ) (r : Reply k) → Promised k s at r
+pub reply-cases : {X : Type 0} (k : Kind) (s : List ℕ) (at : ℕ) (r : Reply k) → ReadsAs k s at r
     → ((v : Value k) (n : Count) → r ≡ number k v n → read (width k) s at ≡ gives (v, n .0) → X)
     → ((why : Refusal) → r ≡ refuse k why → read (width k) s at ≡ refused (because why) → X) → X
 reply-cases loop64 s at (R64.Number v n) p value fault = value v n refl (sym (p .is))
@@ -101,14 +101,14 @@ reply-cases signed64 s at (RI64.Number v n) p value fault = value v n refl (sym 
 reply-cases signed64 s at (RI64.Refused why) p value fault = fault why refl (sym (p .is))
 
 -- an answer and what it says
-module _ (k : Reader) (s : List ℕ) (at : ℕ) where
-  pub number-read : (r : Reply k) (v : Value k) (n : Count) → r ≡ number k v n → Promised k s at r → read (width k) s at ≡ gives (v, n .0)
-  number-read r v n e p = number-says k s at v n .0 (subst (Promised k s at) e p)
+module _ (k : Kind) (s : List ℕ) (at : ℕ) where
+  pub number-read : (r : Reply k) (v : Value k) (n : Count) → r ≡ number k v n → ReadsAs k s at r → read (width k) s at ≡ gives (v, n .0)
+  number-read r v n e p = number-says k s at v n .0 (subst (ReadsAs k s at) e p)
 
-  pub refusal-read : (r : Reply k) (why : Refusal) → r ≡ refuse k why → Promised k s at r → read (width k) s at ≡ refused (because why)
-  refusal-read r why e p = refusal-says k s at why .0 (subst (Promised k s at) e p)
+  pub refusal-read : (r : Reply k) (why : Refusal) → r ≡ refuse k why → ReadsAs k s at r → read (width k) s at ≡ refused (because why)
+  refusal-read r why e p = refusal-says k s at why .0 (subst (ReadsAs k s at) e p)
 
-  pub read-number : (r : Reply k) (v : Value k) (n : Count) → Promised k s at r → read (width k) s at ≡ gives (v, n .0) → r ≡ number k v n
+  pub read-number : (r : Reply k) (v : Value k) (n : Count) → ReadsAs k s at r → read (width k) s at ≡ gives (v, n .0) → r ≡ number k v n
   read-number r v n p e =
       reply-cases k s at r p
       (λ u m d i.
@@ -116,46 +116,46 @@ module _ (k : Reader) (s : List ℕ) (at : ℕ) where
       d ∙ ap (λ (x : Value k × ℕ). number k (x .0) (record { 0 = x .1 })) (same-both (given-value q) (given-count q)))
       (λ why d i. apart (sym e ∙ i))
 
-  pub read-refusal : (r : Reply k) (why : Refusal) → Promised k s at r → read (width k) s at ≡ refused (because why) → r ≡ refuse k why
+  pub read-refusal : (r : Reply k) (why : Refusal) → ReadsAs k s at r → read (width k) s at ≡ refused (because why) → r ≡ refuse k why
   read-refusal r why p e =
       reply-cases k s at r p (λ v n d i. apart (sym i ∙ e))
       (λ a d i. d ∙ ap (refuse k) (refused-same a why (sym i ∙ e)))
 
-  pub one-reply : (r r′ : Reply k) → Promised k s at r → Promised k s at r′ → r ≡ r′
+  pub one-reply : (r r′ : Reply k) → ReadsAs k s at r → ReadsAs k s at r′ → r ≡ r′
   one-reply r r′ p q =
       reply-cases k s at r p (λ v n e i. e ∙ sym (read-number r′ v n q i))
       (λ why e i. e ∙ sym (read-refusal r′ why q i))
 
 -- 1
-pub accepts : (k : Reader) → Accepts k
+pub accepts : (k : Kind) → Accepts k
 accepts k s at r bytes p v n = (
   λ e. reading-of k .begins s at v (n .0) bytes (number-read k s at r v n e p),
   λ b. read-number k s at r v n p (reading-of k .begun s at v (n .0) b),
 )
 
 -- 2
-pub read-row : (k : Reader) → (s : List ℕ) (at : ℕ) → Bytes s → (why : Refusal) → read (width k) s at ≡ refused (because why) → Row (width k) s at why
+pub read-row : (k : Kind) → (s : List ℕ) (at : ℕ) → Bytes s → (why : Refusal) → read (width k) s at ≡ refused (because why) → Row (width k) s at why
 read-row k s at bytes why e =
     ⊎-elim (λ (row : (a : Refusal) × Row (width k) s at a).
     subst (Row (width k) s at) (refused-same (row .0) why (sym (row-refused (width k) (reading-of k .sound) (row .0) s at (row .1)) ∙ e)) (row .1))
-    (λ (g : (v : Value k) × (n : ℕ) × Stands (width k) s at v n). apart (sym (standing (width k) s at (g .2)) ∙ e))
+    (λ (g : (v : Value k) × (n : ℕ) × Stands (width k) s at v n). apart (sym (stands-read (width k) s at (g .2)) ∙ e))
     (decide (width k) (reading-of k .sound) s at bytes)
 
-pub refuses : (k : Reader) → Refuses k
+pub refuses : (k : Kind) → Refuses k
 refuses k s at r bytes p why = (
   λ e. read-row k s at bytes why (refusal-read k s at r why e p),
   λ row. read-refusal k s at r why p (row-refused (width k) (reading-of k .sound) why s at row),
 )
 
-pub excludes : (k : Reader) → Excludes k
+pub excludes : (k : Kind) → Excludes k
 excludes k s at = (
   λ a b p q. refused-same a b (sym (row-refused (width k) (reading-of k .sound) a s at p) ∙ row-refused (width k) (reading-of k .sound) b s at q),
   λ a v n p b. apart (sym (reading-of k .begun s at v n b) ∙ row-refused (width k) (reading-of k .sound) a s at p),
 )
 
-pub exhausts : (k : Reader) → Exhausts k
+pub exhausts : (k : Kind) → Exhausts k
 exhausts k s at bytes =
     ⊎-elim (λ row. inl row)
     (λ (g : (v : Value k) × (n : ℕ) × Stands (width k) s at v n).
-    inr (g .0, g .1, reading-of k .begins s at (g .0) (g .1) bytes (standing (width k) s at (g .2))))
+    inr (g .0, g .1, reading-of k .begins s at (g .0) (g .1) bytes (stands-read (width k) s at (g .2))))
     (decide (width k) (reading-of k .sound) s at bytes)

@@ -15,11 +15,10 @@ use Rattle.words.specs.declared.Written.the-variants as W
 use Rattle.words.proofs.Cases.{by-order}
 use Rattle.groups.specs.Begins.{Begins}
 use Rattle.groups.specs.Group.{Bytes}
-use Rattle.words.specs.Laying.{writing, laid, Lays}
-use Rattle.lists.specs.Lists.{list-limit, forms}
+use Rattle.words.specs.Lays.{writing, laid, Lays}
+use Rattle.lists.specs.Lists.{forms, listLimit}
 use Rattle.lists.specs.Promise.{WritesList}
-use Rattle.claims.specs.Readers.{Reader, loop64, recursive64, unsigned32, signed64, Value, number, Promised, form, OfWidth}
-use Rattle.claims.specs.Writers.{Laying}
+use Rattle.claims.specs.Kinds.{Kind, loop64, recursive64, unsigned32, signed64, Value, number, ReadsAs, form, OfWidth, WritesAs}
 use Rattle.claims.specs.OfNumbers.{LaysExactly, Writes, WriteRead, ReadWrite, MoreBehind, SomeByte}
 use Rattle.claims.specs.OfLists.{WritesLists}
 use Rattle.words.proofs.OneMeaning.{same-written, apart, refused-same}
@@ -60,28 +59,28 @@ module _ (bytes s : List ℕ) (at : ℕ) (r : Written) (out : List ℕ) (w : Lay
   )
 
 -- each writer lays its form down
-pub lays : (k : Reader) (v : Value k) {s out : List ℕ} {at : ℕ} {r : Written} → Laying k v s at r out → Lays (form k v) s at r out
-lays loop64 v p = p
-lays recursive64 v p = p
-lays unsigned32 v p = p
-lays signed64 v p = p
+pub lays-form : (k : Kind) (v : Value k) {s out : List ℕ} {at : ℕ} {r : Written} → WritesAs k v s at r out → Lays (form k v) s at r out
+lays-form loop64 v p = p
+lays-form recursive64 v p = p
+lays-form unsigned32 v p = p
+lays-form signed64 v p = p
 
 -- 3
-pub writes : (k : Reader) → Writes k
-writes k v before at r after p = exactly (form k v) before at r after (lays k v p)
+pub writes : (k : Kind) → Writes k
+writes k v before at r after p = exactly (form k v) before at r after (lays-form k v p)
 
 -- a list no longer than the limit is laid down as one number's form is
-lays-list : (ns s : List ℕ) (at : ℕ) (r : Written) (out : List ℕ) → WritesList ns s at r out → length ns ≤ list-limit → Lays (forms ns) s at r out
+lays-list : (ns s : List ℕ) (at : ℕ) (r : Written) (out : List ℕ) → WritesList ns s at r out → length ns ≤ listLimit → Lays (forms ns) s at r out
 lays-list ns s at r out w h =
-    let t = le-ltb list-limit (length ns) h in
+    let t = le-ltb listLimit (length ns) h in
     record { answer = w .answer ∙ rw t; leaves = w .leaves ∙ rw t }
 
 pub writes-list : WritesLists
 writes-list ns before at r after w = (
   (
-    λ h. let t = lt-ltb list-limit (length ns) h in
+    λ h. let t = lt-ltb listLimit (length ns) h in
         (same-written r (W.Refused TooLong) (w .answer ∙ rw t), w .leaves ∙ rw t),
-    λ e. by-order list-limit (length ns) (λ h. h) (λ h. absurd (never (e .0) (lays-list ns before at r after w h))),
+    λ e. by-order listLimit (length ns) (λ h. h) (λ h. absurd (never (e .0) (lays-list ns before at r after w h))),
   ),
   λ h. exactly (forms ns) before at r after (lays-list ns before at r after w h),
 )
@@ -93,10 +92,10 @@ writes-list ns before at r after w = (
         (λ h. apart (ap meansWritten (sym (fits (forms ns) before at r after l h .0) ∙ e)))
 
 -- 7
-pub write-read : (k : Reader) → WriteRead k
+pub write-read : (k : Kind) → WriteRead k
 write-read k v before at n after r of-width p q =
-    let b = bytes-fit (form k v) before at (W.Bytes n) after (lays k v p) n refl in
-    let e = fits (form k v) before at (W.Bytes n) after (lays k v p) (b .0) .1 in
+    let b = bytes-fit (form k v) before at (W.Bytes n) after (lays-form k v p) n refl in
+    let e = fits (form k v) before at (W.Bytes n) after (lays-form k v p) (b .0) .1 in
     let rest = drop (at + length (form k v)) before in
     let t : length (take at before) ≡ at = length-take-le at before (omega (arith, b .0)) in
     read-number k after at r v n q (reading-of k .begun after at v (n .0) (record {
@@ -107,7 +106,7 @@ write-read k v before at n after r of-width p q =
       count = b .1;
     }))
 
-module _ (k : Reader) (s : List ℕ) (at : ℕ) (v : Value k) (n : Count) (bytes : Bytes s) (p : Promised k s at (number k v n)) where
+module _ (k : Kind) (s : List ℕ) (at : ℕ) (v : Value k) (n : Count) (bytes : Bytes s) (p : ReadsAs k s at (number k v n)) where
   stands : Begins (form k) (OfWidth k) s at v (n .0)
   stands = reading-of k .begins s at v (n .0) bytes (number-says k s at v n .0 p)
 
@@ -132,16 +131,16 @@ module _ (k : Reader) (s : List ℕ) (at : ℕ) (v : Value k) (n : Count) (bytes
     count = stands .count;
   }
 
-pub read-write : (k : Reader) → ReadWrite k
+pub read-write : (k : Kind) → ReadWrite k
 read-write k s at v n r after bytes p q =
     let h = taken k s at v n bytes p in
-    let f = fits (form k v) s at r after (lays k v q) h in
+    let f = fits (form k v) s at r after (lays-form k v q) h in
     (f .0 ∙ ap (λ (m : ℕ). W.Bytes (record { 0 = m })) (sym (stands k s at v n bytes p .count)), f .1 ∙ put-back k s at v n bytes p)
 
-pub more-behind : (k : Reader) → MoreBehind k
+pub more-behind : (k : Kind) → MoreBehind k
 more-behind k s more at v n r bytes p q =
     read-number k (s ++ more) at r v n q (reading-of k .begun (s ++ more) at v (n .0) (behind k s at v n bytes p more))
 
-pub some-byte : (k : Reader) → ((v : Value k) → 0 < length (form k v)) → SomeByte k
+pub some-byte : (k : Kind) → ((v : Value k) → 0 < length (form k v)) → SomeByte k
 some-byte k f s at v n bytes p =
     let c = stands k s at v n bytes p .count in (omega (arith, f v), omega (arith, taken k s at v n bytes p))

@@ -16,29 +16,29 @@ use Rattle.words.proofs.Cases.{by-order, by-test, both-true}
 use Rattle.groups.specs.Begins.{Begins}
 use Rattle.groups.specs.Group.{Bytes}
 use Rattle.groups.specs.Width.{read}
-use Rattle.groups.proofs.Spelling.{Spelled, last, byte, short}
+use Rattle.groups.proofs.Spelling.{Spelled, last, byte, spelled-short}
 use Rattle.uleb128.specs.Unsigned.{form, u64}
 use Rattle.uleb128.proofs.Forms.{form-small, form-large, form-spelled}
-use Rattle.claims.specs.Readers.{loop64}
-use Rattle.claims.specs.Source.{spec-parse-more, spec-parse, spec-serialize-within, spec-serialize-helper}
+use Rattle.claims.specs.Kinds.{loop64}
+use Rattle.claims.specs.Source.{specParseMore, specParse, specSerializeWithin, specSerializeHelper}
 use Rattle.claims.specs.OfNumbers.{SpecParse}
 use Rattle.words.proofs.OneMeaning.{apart}
 use Rattle.claims.proofs.Readers.{reading-of}
 
-serialize-within : (n v : ℕ) → v ≤ n → spec-serialize-within n v ≡ form v
-unfolding spec-serialize-within
+serialize-within : (n v : ℕ) → v ≤ n → specSerializeWithin n v ≡ form v
+unfolding specSerializeWithin
 serialize-within zero v h =
     let z : v ≡ 0 = omega arith in
     rw z (sym (form-small 0 (omega arith)))
 serialize-within (suc n) v h =
     by-order v 128
-    (λ l. let q : v / 128 ≡ 0 = omega arith in rw (eq-eqb (v / 128) 0 q, spec-serialize-within) (rw (mod-eq-of-lt l) (sym (form-small v l))))
+    (λ l. let q : v / 128 ≡ 0 = omega arith in rw (eq-eqb (v / 128) 0 q, specSerializeWithin) (rw (mod-eq-of-lt l) (sym (form-small v l))))
     (λ l.
-    rw (ne-eqb (v / 128) 0 (λ e. omega arith), spec-serialize-within)
+    rw (ne-eqb (v / 128) 0 (λ e. omega arith), specSerializeWithin)
     (rw (serialize-within n (v / 128) (omega arith)) (ap (λ (b : ℕ). b ∷ form (v / 128)) (add-comm (v % 128) 128) ∙ sym (form-large v l))))
 
-pub serialize-same : (v : ℕ) → spec-serialize-helper v ≡ form v
-unfolding spec-serialize-helper
+pub serialize-same : (v : ℕ) → specSerializeHelper v ≡ form v
+unfolding specSerializeHelper
 serialize-same v = serialize-within v v (omega arith)
 
 none-some : {X : Type 0} {p : ℕ × ℕ} → _≡_ {A = Option (ℕ × ℕ)} none (some p) → X
@@ -71,8 +71,8 @@ parsed-high b s n v hi l pos small p =
       count = rw f (omega (arith, p .count));
     }
 
-parsed-more : (b : ℕ) (s : List ℕ) → 128 ≤ b → b < 256 → ((n v : ℕ) → spec-parse s ≡ some (n, v) → Parsed s n v)
-    → (o : Option (ℕ × ℕ)) → spec-parse s ≡ o → (n v : ℕ) → spec-parse-more (b % 128) o ≡ some (n, v) → Parsed (b ∷ s) n v
+parsed-more : (b : ℕ) (s : List ℕ) → 128 ≤ b → b < 256 → ((n v : ℕ) → specParse s ≡ some (n, v) → Parsed s n v)
+    → (o : Option (ℕ × ℕ)) → specParse s ≡ o → (n v : ℕ) → specParseMore (b % 128) o ≡ some (n, v) → Parsed (b ∷ s) n v
 parsed-more b s hi l ih none q n v t = none-some t
 parsed-more b s hi l ih (some p) q n v t =
     by-test (both (ltb (p .0) (2 ^ 64 - 1)) (both (ltb 0 (p .1)) (leb (p .1) (2 ^ 57 - 1))))
@@ -82,21 +82,21 @@ parsed-more b s hi l ih (some p) q n v t =
     rw (w .0, w .1) (parsed-high b s (p .0) (p .1) hi l (ltb-true 0 (p .1) (z .0)) (leb-true (p .1) (2 ^ 57 - 1) (z .1)) (ih (p .0) (p .1) q)))
     (λ y. none-some (rw y at t))
 
-parsed : (s : List ℕ) → Bytes s → (n v : ℕ) → spec-parse s ≡ some (n, v) → Parsed s n v
-unfolding spec-parse
+parsed : (s : List ℕ) → Bytes s → (n v : ℕ) → specParse s ≡ some (n, v) → Parsed s n v
+unfolding specParse
 parsed [] bytes n v e = none-some e
 parsed (b ∷ s) bytes n v e =
     by-order b 128
     (λ l. let w = some-parts (rw (lt-leb 128 b l) at e) in rw (w .0, w .1, mod-eq-of-lt l) (parsed-low b s l))
     (λ l.
-    parsed-more b s l (bytes 0) (λ n v q. parsed s (λ i. bytes (suc i)) n v q) (spec-parse s) refl n v (rw (le-leb 128 b l) at e))
+    parsed-more b s l (bytes 0) (λ n v q. parsed s (λ i. bytes (suc i)) n v q) (specParse s) refl n v (rw (le-leb 128 b l) at e))
 
 -- and each form is parsed
-parse-form : {v : ℕ} {g : List ℕ} (rest : List ℕ) → Spelled false 128 v g → v < 2 ^ 64 → spec-parse (g ++ rest) ≡ some (length g, v)
-unfolding spec-parse
+parse-form : {v : ℕ} {g : List ℕ} (rest : List ℕ) → Spelled false 128 v g → v < 2 ^ 64 → specParse (g ++ rest) ≡ some (length g, v)
+unfolding specParse
 parse-form rest (last {m} p) h = rw (lt-leb 128 m p, mod-eq-of-lt p)
 parse-form rest (byte {m} {g} p r) h =
-    let n : length g ≤ 10 = short (omega arith) 9 r (omega arith) in
+    let n : length g ≤ 10 = spelled-short (omega arith) 9 r (omega arith) in
     let q : (128 + m % 128) % 128 ≡ m % 128 = omega arith in
     let e : m / 128 * 128 + m % 128 ≡ m = omega arith in
     rw (
@@ -110,21 +110,21 @@ parse-form rest (byte {m} {g} p r) h =
       add-one,
     )
 
-parse-read : (s : List ℕ) → Bytes s → (v n : ℕ) → (spec-parse s ≡ some (n, v)) ↔ (read u64 s 0 ≡ gives (v, n))
+parse-read : (s : List ℕ) → Bytes s → (v n : ℕ) → (specParse s ≡ some (n, v)) ↔ (read u64 s 0 ≡ gives (v, n))
 parse-read s bytes v n = (
   λ e. reading-of loop64 .begun s 0 v n (parsed s bytes n v e),
   λ e.
       let b : Parsed s n v = reading-of loop64 .begins s 0 v n bytes e in
-      ap spec-parse (b .begins) ∙ parse-form (b .rest) (form-spelled v) (b .of-width) ∙ ap (λ (m : ℕ). some (m, v)) (sym (b .count)),
+      ap specParse (b .begins) ∙ parse-form (b .rest) (form-spelled v) (b .of-width) ∙ ap (λ (m : ℕ). some (m, v)) (sym (b .count)),
 )
 
 pub parse-same : SpecParse
-parse-same s bytes = (parse-read s bytes, (λ e. by-answer (read u64 s 0) refl e, λ p. by-parse (spec-parse s) refl (p .1)))
+parse-same s bytes = (parse-read s bytes, (λ e. by-answer (read u64 s 0) refl e, λ p. by-parse (specParse s) refl (p .1)))
   where
-    by-answer : (a : Answer (ℕ × ℕ)) → read u64 s 0 ≡ a → spec-parse s ≡ none → (why : Why) × (read u64 s 0 ≡ refused why)
+    by-answer : (a : Answer (ℕ × ℕ)) → read u64 s 0 ≡ a → specParse s ≡ none → (why : Why) × (read u64 s 0 ≡ refused why)
     by-answer (gives p) q e = none-some (sym e ∙ parse-read s bytes (p .0) (p .1) .1 q)
     by-answer (refused k) q e = (k, q)
 
-    by-parse : {k : Why} (o : Option (ℕ × ℕ)) → spec-parse s ≡ o → read u64 s 0 ≡ refused k → spec-parse s ≡ none
+    by-parse : {k : Why} (o : Option (ℕ × ℕ)) → specParse s ≡ o → read u64 s 0 ≡ refused k → specParse s ≡ none
     by-parse none q e = q
     by-parse (some p) q e = apart (sym (parse-read s bytes (p .1) (p .0) .0 q) ∙ e)

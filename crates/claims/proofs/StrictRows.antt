@@ -11,7 +11,7 @@ use Rattle.words.specs.declared.Refusal.{Refusal}
 use Rattle.words.specs.declared.Refusal.the-variants.{NoRoom, TooLong}
 use Rattle.words.proofs.Cases.{by-order}
 use Rattle.groups.specs.Group.{Bytes}
-use Rattle.blocks.specs.Block.{block-limit}
+use Rattle.blocks.specs.Block.{blockLimit}
 use Rattle.lists.specs.Strict.{numbers, strict, filled}
 use Rattle.lists.specs.Promise.{ReadsStrict}
 use Rattle.lists.specs.declared.ReadList.{ReadList}
@@ -25,14 +25,14 @@ use Rattle.claims.proofs.FirstFault.{Outcome, all, broken, outcome, fau
 
 module _ (s old : List ℕ) where
   -- where its row holds, an answer with its slice is strict reading's
-  long-row : block-limit < length s → ReadsStrict s old (L.Refused TooLong) old
+  long-row : blockLimit < length s → ReadsStrict s old (L.Refused TooLong) old
   unfolding strict filled
-  long-row h = let t = lt-ltb block-limit (length s) h in record { answer = rw t; leaves = rw t }
+  long-row h = let t = lt-ltb blockLimit (length s) h in record { answer = rw t; leaves = rw t }
 
-  fault-row : (why : Refusal) → length s ≤ block-limit → FirstFault why s → ReadsStrict s old (L.Refused why) old
+  fault-row : (why : Refusal) → length s ≤ blockLimit → FirstFault why s → ReadsStrict s old (L.Refused why) old
   unfolding strict filled
   fault-row why short k =
-      let t = le-ltb block-limit (length s) short in
+      let t = le-ltb blockLimit (length s) short in
       let e : numbers s ≡ refused (because why) = ap numbers (k .behind) ∙ fault-behind why (k .ns) (k .rest) (k .words) (k .fault) in
       record { answer = rw (t, e); leaves = rw (t, e) }
 
@@ -41,31 +41,31 @@ module _ (s old : List ℕ) where
   refused-row _ (too-long h) = long-row h
   refused-row why (faulty short k) = fault-row why short k
   refused-row _ (no-room short ns k h) =
-      let t = le-ltb block-limit (length s) short in
+      let t = le-ltb blockLimit (length s) short in
       let e : numbers s ≡ gives ns = ap numbers (k .0) ∙ numbers-forms ns (k .1) in
       let f = lt-leb (length ns) (length old) h in
       record { answer = rw (t, e, f); leaves = rw (t, e, f) }
 
-  pub row-reads : (x : ReadList × List ℕ) → StrictRow s old (x .0) (x .1) → ReadsStrict s old (x .0) (x .1)
-  row-reads (L.Refused why, out) h = rw (h .1) (refused-row why (h .0))
-  row-reads (L.Filled n, out) h =
+  pub strict-row-kept : (x : ReadList × List ℕ) → StrictRow s old (x .0) (x .1) → ReadsStrict s old (x .0) (x .1)
+  strict-row-kept (L.Refused why, out) h = rw (h .1) (refused-row why (h .0))
+  strict-row-kept (L.Filled n, out) h =
       let ns = h .1 in
       let q = strictly s ns old (h .0) (ap numbers (h .2 .0) ∙ numbers-forms ns (h .2 .1)) (h .3) in
       record { answer = rw (h .4) (sym (q .0)); leaves = h .5 ∙ sym (q .1) }
 
   -- one of the rows holds
-  by-outcome : {a : Answer (List ℕ)} → length s ≤ block-limit → Outcome s a → (x : ReadList × List ℕ) × StrictRow s old (x .0) (x .1)
+  by-outcome : {a : Answer (List ℕ)} → length s ≤ blockLimit → Outcome s a → (x : ReadList × List ℕ) × StrictRow s old (x .0) (x .1)
   by-outcome short (broken why k) = ((L.Refused why, old), (faulty short k, refl))
   by-outcome short (all ns k) =
       by-order (length old) (length ns) (λ h. ((L.Refused NoRoom, old), (no-room short ns k h, refl)))
       (λ h. ((L.Filled (record { 0 = length ns }), ns ++ drop (length ns) old), (short, ns, k, h, refl, refl)))
 
-  pub row-found : Bytes s → (x : ReadList × List ℕ) × StrictRow s old (x .0) (x .1)
-  row-found bytes =
-      by-order block-limit (length s) (λ h. ((L.Refused TooLong, old), (too-long h, refl)))
+  pub some-strict-row : Bytes s → (x : ReadList × List ℕ) × StrictRow s old (x .0) (x .1)
+  some-strict-row bytes =
+      by-order blockLimit (length s) (λ h. ((L.Refused TooLong, old), (too-long h, refl)))
       (λ short. by-outcome short (outcome (suc (length s)) s (omega arith) bytes))
 
   pub strict-rows : (r : ReadList) (out : List ℕ) → Bytes s → ReadsStrict s old r out ↔ StrictRow s old r out
   strict-rows r out bytes =
       by-rows {R = ReadList × List ℕ} {Promise = λ x. ReadsStrict s old (x .0) (x .1)} {Row = λ x. StrictRow s old (x .0) (x .1)}
-      (λ x y a b. same-both (same-list (x .0) (y .0) (a .answer ∙ sym (b .answer))) (a .leaves ∙ sym (b .leaves))) row-reads (row-found bytes) (r, out)
+      (λ x y a b. same-both (same-list (x .0) (y .0) (a .answer ∙ sym (b .answer))) (a .leaves ∙ sym (b .leaves))) strict-row-kept (some-strict-row bytes) (r, out)

@@ -16,9 +16,9 @@ use Rattle.groups.specs.Group.{Bytes, Group, run}
 use Rattle.groups.specs.Width.{Width, reading, read, tooLarge, tooMany}
 use Rattle.groups.proofs.Run.{run-within, in-run, high-run, run-take-high, all-high, high-all}
 use Rattle.groups.proofs.Rows.{row-end, row-large, read-past, read-from, not-large, too-large, too-many, large-is, many-is}
-use Rattle.groups.proofs.Walks.{Sound}
+use Rattle.groups.proofs.FromWalk.{Sound}
 use Rattle.groups.proofs.Exact.{group-length}
-use Rattle.groups.proofs.Standing.{Stands, front-group, behind, large-behind}
+use Rattle.groups.proofs.Stands.{Stands, front-group, reading-behind, large-behind}
 use Rattle.claims.specs.Table.{EndRow, OverflowRow, NotShortestRow, Row}
 use Rattle.claims.specs.Table.Row.{ends, overflows, not-shortest, past}
 
@@ -41,7 +41,7 @@ module _ {A : Type 0} (w : Width A) (sound : Sound w) where
       let large : tooLarge w g ≡ false =
       not-large w g (omega (arith, row .fits)) (λ e. rw i at (row .allowed (omega arith))) in
       let many : tooMany w g ≡ true = too-many w g (omega (arith, row .not-first)) (rw (i, j) at (row .too-many)) in
-      ap (reading w) (row .ends) ∙ behind w (row .rest) (row .is-group) ∙ rw (large, many)
+      ap (reading w) (row .ends) ∙ reading-behind w (row .rest) (row .is-group) ∙ rw (large, many)
 
   pub row-refused : (why : Refusal) (s : List ℕ) (at : ℕ) → Row w s at why → read w s at ≡ refused (because why)
   row-refused _ s at (ends here row) = read-from w s at here ∙ end-refused (drop at s) row

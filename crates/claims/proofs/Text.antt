@@ -1,8 +1,8 @@
 -- The lines that are given one after another are the text, for every input.
 --
---   whole, ends   from the top on they are the text, and there are such lines; lists: together
---   enough        the first bytes of an input have its text
---   document      document 01's texts
+--   whole, ends   from the top on they are the text, and there are such lines; gives-text: together
+--   front-enough        the first bytes of an input have its text
+--   text-document      document 01's texts
 use Prim.Native.Nat.{ℕ, zero, suc, _+_, _≤_, _<_}
 use mathlib.Core.Path.{_≡_, refl, ap, sym, _∙_}
 use mathlib.Core.List.{List, [], _++_}
@@ -12,8 +12,8 @@ use lib.ListN.{length, take, drop, replicate, length-replicate}
 use lib.Seq.{take-all, length-take-le, take-append-seam}
 use Rattle.words.specs.declared.Count.{Count}
 use Rattle.words.proofs.Cases.{by-order}
-use Rattle.blocks.specs.Block.{block-limit}
-use Rattle.listing.specs.Listing.{text, Stage, top, at, ended, Coming, line, lineOf, line-room, next, row, rows}
+use Rattle.blocks.specs.Block.{blockLimit}
+use Rattle.listing.specs.Listing.{text, Stage, top, at, ended, Coming, line, lineOf, next, row, rows, lineRoom}
 use Rattle.listing.specs.Promise.{meansListing, meansNext, asked, counted, fronted, GivesLine}
 use Rattle.listing.specs.declared.Listing.{Listing}
 use Rattle.listing.specs.declared.Listing.the-variants as L
@@ -27,12 +27,12 @@ use Rattle.blocks.specs.declared.Step.the-variants as S
 use Rattle.blocks.specs.declared.Value.the-variants as N
 use Rattle.blocks.proofs.StepRows.{some-step-row, step-row-kept}
 use Rattle.listing.proofs.Lines as Lines
-use Rattle.listing.proofs.Left as Left
-use Rattle.listing.proofs.Left.{Fine, left, rank, coming}
-use Rattle.listing.proofs.Taking.{took, nothing-left}
+use Rattle.listing.proofs.TextLeft as Left
+use Rattle.listing.proofs.TextLeft.{Fine, left, rank, coming}
+use Rattle.listing.proofs.LineGiven.{line-given, nothing-left}
 use Rattle.groups.specs.Group.{Bytes, run, digits}
 use Rattle.groups.specs.Width.{runsOut, tooLarge, tooMany, reading}
-use Rattle.texts.specs.Texts.{ascii, decimal, decimal-within}
+use Rattle.texts.specs.Texts.{ascii, decimal, decimalWithin}
 use Rattle.blocks.specs.GroupsAndTail.{cut}
 use Rattle.claims.specs.OfListing.{LinesGiven, none, more, GivesText, FrontEnough, Document}
 
@@ -40,7 +40,7 @@ module _ (s : List ℕ) where
   given-left : (g : Listing) (t : List ℕ) → Fine s (meansListing g) → LinesGiven s g t → t ≡ left s (meansListing g)
   given-left g _ fine (none _ before after room e) = sym (nothing-left fine room e)
   given-left g _ fine (more _ g′ n before after t room e rest) =
-      let k = took fine e refl in rw (given-left g′ t (k .fine) rest) (sym (k .goes-on))
+      let k = line-given fine e refl in rw (given-left g′ t (k .fine) rest) (sym (k .goes-on))
 
   whole : (t : List ℕ) → LinesGiven s L.Top t → t ≡ text s
   whole t k = given-left L.Top t tt k
@@ -58,20 +58,20 @@ staged ended = refl
 
 -- a buffer with room for a line
 abbrev buffer : List ℕ → List ℕ
-buffer l = replicate (line-room + length l) 0
+buffer l = replicate (lineRoom + length l) 0
 
 module _ (s : List ℕ) (g : Stage) where
   -- the line that comes next, and the lines behind it
   goes-on : (x : Coming (List ℕ)) → next s g ≡ x → Left.Left s g x
       → ((g′ : Stage) → Fine s g′ → rank s g′ < rank s g → LinesGiven s (listingAt g′) (left s g′)) → LinesGiven s (listingAt g) (left s g)
-  goes-on _ e (Left.none f) rest = rw f (none (listingAt g) (buffer []) (buffer []) (omega arith) (Lines.none (omega arith) (rw (staged g) e)))
+  goes-on _ e (Left.none f) rest = rw f (none (listingAt g) (buffer []) (buffer []) (omega arith) (Lines.line-none (omega arith) (rw (staged g) e)))
   goes-on _ e (Left.more l g′ fine f falls) rest =
       let n : Count = record { 0 = length l } in
       let after = l ++ drop (length l) (buffer l) in
-      let room : line-room ≤ length (buffer l) = omega (arith, length-replicate {A = ℕ} (line-room + length l) 0) in
+      let room : lineRoom ≤ length (buffer l) = omega (arith, length-replicate {A = ℕ} (lineRoom + length l) 0) in
       let next-line : next s (meansListing (listingAt g)) ≡ line l (meansListing (listingAt g′)) = rw (staged g, staged g′) e in
       rw (f, ← (take-append-seam l (drop (length l) (buffer l))))
-      (more (listingAt g) (listingAt g′) n (buffer l) after (left s g′) room (Lines.fronts room next-line) (rest g′ fine falls))
+      (more (listingAt g) (listingAt g′) n (buffer l) after (left s g′) room (Lines.line-fronts room next-line) (rest g′ fine falls))
 
 given : (s : List ℕ) (fuel : ℕ) (g : Stage) → rank s g < fuel → Fine s g → LinesGiven s (listingAt g) (left s g)
 given s zero g h fine = absurd (omega arith)
@@ -80,24 +80,24 @@ given s (suc fuel) g h fine = goes-on s g (next s g) refl (coming s g fine) (λ 
 ends : (s : List ℕ) → LinesGiven s L.Top (text s)
 ends s = given s (length s + 3) top (omega arith) tt
 
-text-long : (s : List ℕ) → block-limit < length s → text s ≡ ascii "refused 7\n"
+text-long : (s : List ℕ) → blockLimit < length s → text s ≡ ascii "refused 7\n"
 unfolding text
-text-long s h = rw (lt-ltb block-limit (length s) h)
+text-long s h = rw (lt-ltb blockLimit (length s) h)
 
-pub enough : FrontEnough
-enough s =
-    by-order block-limit (length s)
+pub front-enough : FrontEnough
+front-enough s =
+    by-order blockLimit (length s)
     (λ long.
-    let n : length (take (block-limit + 1) s) ≡ block-limit + 1 = length-take-le (block-limit + 1) s (omega arith) in
-    text-long (take (block-limit + 1) s) (omega (arith, n)) ∙ sym (text-long s long))
-    (λ short. ap text (take-all (block-limit + 1) s (omega arith)))
+    let n : length (take (blockLimit + 1) s) ≡ blockLimit + 1 = length-take-le (blockLimit + 1) s (omega arith) in
+    text-long (take (blockLimit + 1) s) (omega (arith, n)) ∙ sym (text-long s long))
+    (λ short. ap text (take-all (blockLimit + 1) s (omega arith)))
 
-pub lists : GivesText
-lists s t = (whole s t, λ e. rw e (ends s))
+pub gives-text : GivesText
+gives-text s t = (whole s t, λ e. rw e (ends s))
 
-pub document : Document
-unfolding text row rows decimal decimal-within cut reading runsOut tooLarge tooMany run digits
-document = record { document = refl; mended = refl; empty = refl }
+pub text-document : Document
+unfolding text row rows decimal decimalWithin cut reading runsOut tooLarge tooMany run digits
+text-document = record { document = refl; mended = refl; empty = refl }
 
 -- what is said of what comes next
 abbrev Sayable : Coming ℕ → Type 0
@@ -116,7 +116,7 @@ said-at p (S.Refused why) = (X.Refused why, refl)
 
 said-next : (s : List ℕ) (g : Stage) → Bytes s → Sayable (counted (next s g))
 said-next s top bytes =
-    by-order block-limit (length s) (λ h. rw (lt-ltb block-limit (length s) h) (say-line _ ended)) (λ h. rw (le-ltb block-limit (length s) h) (say-line _ (at 0)))
+    by-order blockLimit (length s) (λ h. rw (lt-ltb blockLimit (length s) h) (say-line _ ended)) (λ h. rw (le-ltb blockLimit (length s) h) (say-line _ (at 0)))
 said-next s (at p) bytes =
     let f = some-step-row Unsigned s p bytes in
     let w = step-row-kept Unsigned s p (f .0) (f .1) in
@@ -125,6 +125,6 @@ said-next s ended bytes = (X.Ended, refl)
 
 pub found-line : (g : Listing) (s before : List ℕ) → Bytes s → (r : Next) × GivesLine g s before r (fronted (asked s (meansListing g) (length before)) before)
 found-line g s before bytes =
-    by-order (length before) line-room
-    (λ h. (X.Refused NoRoom, record { answer = rw (lt-ltb (length before) line-room h); leaves = refl }))
-    (λ h. let f = said-next s (meansListing g) bytes in (f .0, record { answer = rw (le-ltb (length before) line-room h) (f .1); leaves = refl }))
+    by-order (length before) lineRoom
+    (λ h. (X.Refused NoRoom, record { answer = rw (lt-ltb (length before) lineRoom h); leaves = refl }))
+    (λ h. let f = said-next s (meansListing g) bytes in (f .0, record { answer = rw (le-ltb (length before) lineRoom h) (f .1); leaves = refl }))

@@ -1,5 +1,4 @@
-pub mod Readers
-pub mod Writers
+pub mod Kinds
 pub mod Table
 pub mod Source
 pub mod Try

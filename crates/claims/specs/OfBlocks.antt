@@ -14,7 +14,7 @@ use Rattle.words.specs.Answer.{gives, refused, Answer, because}
 use Rattle.words.specs.declared.Refusal.{Refusal}
 use Rattle.groups.specs.Group.{Bytes, Group}
 use Rattle.groups.specs.Width.{reading}
-use Rattle.claims.specs.Readers.{Reader, Value, number, width, form, OfWidth}
+use Rattle.claims.specs.Kinds.{Kind, Value, number, width, form, OfWidth}
 use Rattle.blocks.specs.Promise.{Steps, SetsDown}
 use Rattle.blocks.specs.Readings.{Block, readings, ReaderGives}
 use Rattle.blocks.specs.declared.Rule.{Rule}
@@ -41,7 +41,7 @@ ReaderSetDown = (f : ℕ → Rule) (s : List ℕ) (p : ℕ) → Bytes s →
     × (SetsDown s p (D.Refused NoStart) → from p (listed s) ≡ [])
 
 -- A group is read as a number exactly when it is its shortest form, and else is a gap, by row 2 or 3.
-pub record ReadGroup (k : Reader) (g : List ℕ) : Type 0 where
+pub record ReadGroup (k : Kind) (g : List ℕ) : Type 0 where
   pub number : (v : Value k) → (reading (width k) g ≡ gives (v, length g)) ↔ (OfWidth k v × (g ≡ form k v))
   pub gap : (why : Refusal) → (reading (width k) g ≡ refused (because why)) ↔ GapRow (width k) g why
 
@@ -56,7 +56,7 @@ pub record BlocksOne : Type 0 where
   pub set-down : (s : List ℕ) (p : ℕ) (r r′ : SetDown) → SetsDown s p r → SetsDown s p r′ → r ≡ r′
 
 pub record OfBlocks : Type 0 where
-  pub read-group : (k : Reader) (g : List ℕ) → Group g → ReadGroup k g
+  pub read-group : (k : Kind) (g : List ℕ) → Group g → ReadGroup k g
   pub step-rows : (rule : Rule) (s : List ℕ) (p : ℕ) (r : Step) → Bytes s → Steps rule s p r ↔ StepRow rule s p r
   pub set-down-rows : (s : List ℕ) (p : ℕ) (r : SetDown) → SetsDown s p r ↔ SetDownRow s p r
   pub reader-from : ReaderFrom

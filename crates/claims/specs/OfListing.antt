@@ -12,16 +12,16 @@ use Prim.Native.Nat.{ℕ, _+_, _/_, _%_, _≤_, _<_}
 use mathlib.Core.Path.{_≡_}
 use mathlib.Core.List.{List, [], _∷_, _++_}
 use Rattle.groups.specs.Group.{Bytes, digits}
-use Rattle.texts.specs.Texts.{Lays, ascii, decimal}
+use Rattle.texts.specs.Texts.{ascii, decimal, LaysText}
 use Rattle.listing.specs.Promise.{GivesLine}
 use Rattle.listing.specs.declared.Listing.{Listing}
 use Rattle.listing.specs.declared.Next.{Next}
-use Rattle.claims.specs.Writers.{Both}
+use Rattle.claims.specs.Kinds.{Both}
 use mathlib.Core.Logic.{_↔_}
 use lib.ListN.{length, take, replicate}
 use Rattle.words.specs.declared.Count.{Count}
-use Rattle.blocks.specs.Block.{block-limit}
-use Rattle.listing.specs.Listing.{line-room, text}
+use Rattle.blocks.specs.Block.{blockLimit}
+use Rattle.listing.specs.Listing.{text, lineRoom}
 use Rattle.listing.specs.declared.Listing.the-variants as L
 use Rattle.listing.specs.declared.Next.the-variants as X
 
@@ -29,15 +29,15 @@ abbrev pub Digits : Type 0
 Digits = (v : ℕ) → (v < 10 → decimal v ≡ (48 + v) ∷ []) × (10 ≤ v → decimal v ≡ decimal (v / 10) ++ (48 + v % 10) ∷ [])
 
 pub data LinesGiven (s : List ℕ) : Listing → List ℕ → Type 0 where
-  none : (g : Listing) (before after : List ℕ) → line-room ≤ length before → GivesLine g s before X.Ended after → LinesGiven s g []
-  more : (g g′ : Listing) (n : Count) (before after t : List ℕ) → line-room ≤ length before → GivesLine g s before (X.Line n g′) after
+  none : (g : Listing) (before after : List ℕ) → lineRoom ≤ length before → GivesLine g s before X.Ended after → LinesGiven s g []
+  more : (g g′ : Listing) (n : Count) (before after t : List ℕ) → lineRoom ≤ length before → GivesLine g s before (X.Line n g′) after
       → LinesGiven s g′ t → LinesGiven s g (take (n .0) after ++ t)
 
 abbrev pub GivesText : Type 0
 GivesText = (s t : List ℕ) → LinesGiven s L.Top t ↔ (t ≡ text s)
 
 abbrev pub FrontEnough : Type 0
-FrontEnough = (s : List ℕ) → text (take (block-limit + 1) s) ≡ text s
+FrontEnough = (s : List ℕ) → text (take (blockLimit + 1) s) ≡ text s
 
 pub record Document : Type 0 where
   pub document : text (0x00 ∷ 0x80 ∷ 0x01 ∷ 0x80 ∷ 0x00 ∷ replicate 9 0xff ++ 0x02 ∷ 0x05 ∷ 0x83 ∷ [])
@@ -48,12 +48,12 @@ pub record Document : Type 0 where
 
 -- Each promise is met by some answer, with some final content of what was lent, on every input: no claim over promises is empty.
 pub record ListingMet : Type 0 where
-  pub text : (t s : List ℕ) (at : ℕ) → (x : ℕ × List ℕ) × Both (Lays t s at) x
+  pub text : (t s : List ℕ) (at : ℕ) → (x : ℕ × List ℕ) × Both (LaysText t s at) x
   pub line : (g : Listing) (s before : List ℕ) → Bytes s → (x : Next × List ℕ) × Both (GivesLine g s before) x
 
 -- And by no second: no second answer, and no second final content of what was lent.
 pub record ListingOne : Type 0 where
-  pub text : (t s : List ℕ) (at r r′ : ℕ) (out out′ : List ℕ) → Lays t s at r out → Lays t s at r′ out′ → (r ≡ r′) × (out ≡ out′)
+  pub text : (t s : List ℕ) (at r r′ : ℕ) (out out′ : List ℕ) → LaysText t s at r out → LaysText t s at r′ out′ → (r ≡ r′) × (out ≡ out′)
   pub line : (g : Listing) (s before : List ℕ) (r r′ : Next) (after after′ : List ℕ) → GivesLine g s before r after → GivesLine g s before r′ after′
       → (r ≡ r′) × (after ≡ after′)
 

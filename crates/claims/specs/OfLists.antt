@@ -20,12 +20,12 @@ use Rattle.words.specs.declared.Refusal.the-variants.{TooLong, End, NoRoom}
 use Rattle.words.specs.declared.Written.{Written}
 use Rattle.words.specs.declared.Written.the-variants as W
 use Rattle.groups.specs.Group.{Bytes, High, Group}
-use Rattle.blocks.specs.Block.{block-limit}
-use Rattle.lists.specs.Lists.{list-limit, forms}
+use Rattle.blocks.specs.Block.{blockLimit}
+use Rattle.lists.specs.Lists.{forms, listLimit}
 use Rattle.lists.specs.Promise.{WritesList, ReadsStrict}
 use Rattle.lists.specs.declared.ReadList.{ReadList}
 use Rattle.lists.specs.declared.ReadList.the-variants as L
-use Rattle.claims.specs.Writers.{Both}
+use Rattle.claims.specs.Kinds.{Both}
 use Rattle.claims.specs.OfNumbers.{LaysExactly}
 use Rattle.words.specs.declared.Refusal.{Refusal}
 use Rattle.uleb128.specs.Unsigned.{u64}
@@ -52,26 +52,26 @@ pub record FirstFault (why : Refusal) (s : List ℕ) : Type 0 where
   pub fault : Fault rest why
 
 pub data StrictRefused (s : List ℕ) (room : ℕ) : Refusal → Type 0 where
-  too-long : block-limit < length s → StrictRefused s room TooLong
-  faulty : {why : Refusal} → length s ≤ block-limit → FirstFault why s → StrictRefused s room why
-  no-room : length s ≤ block-limit → (ns : List ℕ) → IsForms s ns → room < length ns → StrictRefused s room NoRoom
+  too-long : blockLimit < length s → StrictRefused s room TooLong
+  faulty : {why : Refusal} → length s ≤ blockLimit → FirstFault why s → StrictRefused s room why
+  no-room : length s ≤ blockLimit → (ns : List ℕ) → IsForms s ns → room < length ns → StrictRefused s room NoRoom
 
 -- the numbers fill the front of the slice, and the rest is kept; or all is
 abbrev pub StrictRow : List ℕ → List ℕ → ReadList → List ℕ → Type 0
 StrictRow s old (L.Filled n) out =
-    (length s ≤ block-limit) × (ns : List ℕ) × IsForms s ns × (length ns ≤ length old) × (n .0 ≡ length ns) × (out ≡ ns ++ drop (length ns) old)
+    (length s ≤ blockLimit) × (ns : List ℕ) × IsForms s ns × (length ns ≤ length old) × (n .0 ≡ length ns) × (out ≡ ns ++ drop (length ns) old)
 StrictRow s old (L.Refused why) out = StrictRefused s (length old) why × (out ≡ old)
 
 -- A list of more numbers than the limit is refused by 7; any other is written as one number is, its forms one after another.
 abbrev pub WritesLists : Type 0
 WritesLists = (ns before : List ℕ) (at : ℕ) (r : Written) (after : List ℕ) → WritesList ns before at r after →
-    ((list-limit < length ns) ↔ ((r ≡ W.Refused TooLong) × (after ≡ before)))
-    × (length ns ≤ list-limit → LaysExactly (forms ns) before at r after)
+    ((listLimit < length ns) ↔ ((r ≡ W.Refused TooLong) × (after ≡ before)))
+    × (length ns ≤ listLimit → LaysExactly (forms ns) before at r after)
 
 -- Strict reading of what list writing wrote gives the list back, if that is within the block limit and the answer slice holds it.
 abbrev pub ListBack : Type 0
 ListBack = (ns before : List ℕ) (at : ℕ) (n : Count) (after old : List ℕ) (r : ReadList) (out : List ℕ)
-    → Of64Bits ns → WritesList ns before at (W.Bytes n) after → n .0 ≤ block-limit → length ns ≤ length old
+    → Of64Bits ns → WritesList ns before at (W.Bytes n) after → n .0 ≤ blockLimit → length ns ≤ length old
     → ReadsStrict (take (n .0) (drop at after)) old r out
     → (r ≡ L.Filled (record { 0 = length ns })) × (out ≡ ns ++ drop (length ns) old)
 

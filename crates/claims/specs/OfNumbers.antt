@@ -2,7 +2,7 @@
 --
 --   Accepts, Refuses, Excludes, Exhausts         demand 2, readers
 --   Writes (by LaysExactly)                      demand 2, writers
---   Shortest, Most, most-bytes, zero-of          how a number is spelled, in how many bytes, and zero
+--   Shortest, Most, mostBytes, zeroOf          how a number is spelled, in how many bytes, and zero
 --   TwosComplement, Within, SignedForm, OneTooMany   how a signed number is spelled
 --   WriteRead, ReadWrite, MoreBehind, SomeByte   round trips, and what the source calls prefix-secure and productive
 --   SpecParse                                    the source's own definition
@@ -34,30 +34,29 @@ use Rattle.uleb128.specs.Promise.{ReadsU64, WritesU64}
 use Rattle.uleb128_rec.specs.Promise.{ReadsU64Rec, WritesU64Rec}
 use Rattle.uleb128.specs.declared.ReadU64.{ReadU64}
 use Rattle.sleb128.specs.Signed as signed
-use Rattle.claims.specs.Readers.{Reader, loop64, recursive64, unsigned32, signed64, Value, Reply, number, refuse, Promised, width, form, OfWidth}
-use Rattle.claims.specs.Writers.{Laying, Length, Both}
+use Rattle.claims.specs.Kinds.{Kind, loop64, recursive64, unsigned32, signed64, Value, Reply, number, refuse, ReadsAs, width, form, OfWidth, WritesAs, TakesAs, Both}
 use Rattle.claims.specs.Table.{Row}
-use Rattle.claims.specs.Source.{spec-parse, spec-serialize-helper}
+use Rattle.claims.specs.Source.{specParse, specSerializeHelper}
 use Rattle.claims.specs.Try.{Starred}
 
 -- 1. A reader accepts with v and n exactly when the bytes from the start begin with the shortest form of a number of the width, v is that
 -- number and n the length of its form.
-abbrev pub Accepts : Reader → Type 0
-Accepts k = (s : List ℕ) (at : ℕ) (r : Reply k) → Bytes s → Promised k s at r
+abbrev pub Accepts : Kind → Type 0
+Accepts k = (s : List ℕ) (at : ℕ) (r : Reply k) → Bytes s → ReadsAs k s at r
     → (v : Value k) (n : Count) → (r ≡ number k v n) ↔ Begins (form k) (OfWidth k) s at v (n .0)
 
 -- 2. It refuses by a number exactly when the row of that number holds; no two rows hold, and none where it accepts; and one holds or
 -- it accepts.
-abbrev pub Refuses : Reader → Type 0
-Refuses k = (s : List ℕ) (at : ℕ) (r : Reply k) → Bytes s → Promised k s at r
+abbrev pub Refuses : Kind → Type 0
+Refuses k = (s : List ℕ) (at : ℕ) (r : Reply k) → Bytes s → ReadsAs k s at r
     → (why : Refusal) → (r ≡ refuse k why) ↔ Row (width k) s at why
 
-abbrev pub Excludes : Reader → Type 0
+abbrev pub Excludes : Kind → Type 0
 Excludes k = (s : List ℕ) (at : ℕ) →
     ((a b : Refusal) → Row (width k) s at a → Row (width k) s at b → a ≡ b)
     × ((a : Refusal) (v : Value k) (n : ℕ) → Row (width k) s at a → Begins (form k) (OfWidth k) s at v n → ⊥)
 
-abbrev pub Exhausts : Reader → Type 0
+abbrev pub Exhausts : Kind → Type 0
 Exhausts k = (s : List ℕ) (at : ℕ) → Bytes s →
     ((why : Refusal) × Row (width k) s at why) ⊎ ((v : Value k) × (n : ℕ) × Begins (form k) (OfWidth k) s at v n)
 
@@ -70,8 +69,8 @@ LaysExactly bytes before at r after =
     × ((length before < at + length bytes) ↔ ((r ≡ W.Refused NoRoom) × (after ≡ before)))
     × (length after ≡ length before)
 
-abbrev pub Writes : Reader → Type 0
-Writes k = (v : Value k) (before : List ℕ) (at : ℕ) (r : Written) (after : List ℕ) → Laying k v before at r after
+abbrev pub Writes : Kind → Type 0
+Writes k = (v : Value k) (before : List ℕ) (at : ℕ) (r : Written) (after : List ℕ) → WritesAs k v before at r after
     → LaysExactly (form k v) before at r after
 
 -- 4. The shortest unsigned form: one byte v if v < 128, else (v mod 128) + 128 followed by the form of v div 128.
@@ -79,20 +78,20 @@ abbrev pub Shortest : Type 0
 Shortest = (v : ℕ) → (v < 128 → unsigned.form v ≡ v ∷ []) × (128 ≤ v → unsigned.form v ≡ (v % 128 + 128) ∷ unsigned.form (v / 128))
 
 -- The most bytes of each width, which some number takes.
-abbrev pub most-bytes : Reader → ℕ
-most-bytes loop64 = 10
-most-bytes recursive64 = 10
-most-bytes unsigned32 = 5
-most-bytes signed64 = 10
+abbrev pub mostBytes : Kind → ℕ
+mostBytes loop64 = 10
+mostBytes recursive64 = 10
+mostBytes unsigned32 = 5
+mostBytes signed64 = 10
 
-abbrev pub Most : Reader → Type 0
-Most k = ((v : Value k) → OfWidth k v → length (form k v) ≤ most-bytes k) × ((v : Value k) × OfWidth k v × (length (form k v) ≡ most-bytes k))
+abbrev pub Most : Kind → Type 0
+Most k = ((v : Value k) → OfWidth k v → length (form k v) ≤ mostBytes k) × ((v : Value k) × OfWidth k v × (length (form k v) ≡ mostBytes k))
 
-abbrev pub zero-of : (k : Reader) → Value k
-zero-of loop64 = 0
-zero-of recursive64 = 0
-zero-of unsigned32 = 0
-zero-of signed64 = pos 0
+abbrev pub zeroOf : (k : Kind) → Value k
+zeroOf loop64 = 0
+zeroOf recursive64 = 0
+zeroOf unsigned32 = 0
+zeroOf signed64 = pos 0
 
 -- 5. A signed form of k bytes has the value of its 7k bits in two's complement.
 abbrev pub TwosComplement : Type 0
@@ -118,30 +117,30 @@ abbrev pub OneTooMany : Type 0
 OneTooMany = (g : List ℕ) → Group g → (tooMany signed.i64 g ≡ true) ↔ (length (signed.form (signed.i64 .value g)) < length g)
 
 -- 7. Write then read gives the number back.
-abbrev pub WriteRead : Reader → Type 0
+abbrev pub WriteRead : Kind → Type 0
 WriteRead k = (v : Value k) (before : List ℕ) (at : ℕ) (n : Count) (after : List ℕ) (r : Reply k) → OfWidth k v
-    → Laying k v before at (W.Bytes n) after → Promised k after at r → r ≡ number k v n
+    → WritesAs k v before at (W.Bytes n) after → ReadsAs k after at r → r ≡ number k v n
 
 -- Read then write gives the bytes back.
-abbrev pub ReadWrite : Reader → Type 0
+abbrev pub ReadWrite : Kind → Type 0
 ReadWrite k = (s : List ℕ) (at : ℕ) (v : Value k) (n : Count) (r : Written) (after : List ℕ) → Bytes s
-    → Promised k s at (number k v n) → Laying k v s at r after → (r ≡ W.Bytes n) × (after ≡ s)
+    → ReadsAs k s at (number k v n) → WritesAs k v s at r after → (r ≡ W.Bytes n) × (after ≡ s)
 
 -- More bytes behind an accepted number change nothing.
-abbrev pub MoreBehind : Reader → Type 0
+abbrev pub MoreBehind : Kind → Type 0
 MoreBehind k = (s more : List ℕ) (at : ℕ) (v : Value k) (n : Count) (r : Reply k) → Bytes s
-    → Promised k s at (number k v n) → Promised k (s ++ more) at r → r ≡ number k v n
+    → ReadsAs k s at (number k v n) → ReadsAs k (s ++ more) at r → r ≡ number k v n
 
 -- At least one byte is taken, and no more than are there.
-abbrev pub SomeByte : Reader → Type 0
-SomeByte k = (s : List ℕ) (at : ℕ) (v : Value k) (n : Count) → Bytes s → Promised k s at (number k v n)
+abbrev pub SomeByte : Kind → Type 0
+SomeByte k = (s : List ℕ) (at : ℕ) (v : Value k) (n : Count) → Bytes s → ReadsAs k s at (number k v n)
     → (0 < n .0) × (at + n .0 ≤ length s)
 
 -- 8. `spec_parse` gives what the reading gives, and nothing exactly where it refuses.
 abbrev pub SpecParse : Type 0
 SpecParse = (s : List ℕ) → Bytes s →
-    ((v n : ℕ) → (spec-parse s ≡ some (n, v)) ↔ (read unsigned.u64 s 0 ≡ gives (v, n)))
-    × ((spec-parse s ≡ none) ↔ ((why : Why) × (read unsigned.u64 s 0 ≡ refused why)))
+    ((v n : ℕ) → (specParse s ≡ some (n, v)) ↔ (read unsigned.u64 s 0 ≡ gives (v, n)))
+    × ((specParse s ≡ none) ↔ ((why : Why) × (read unsigned.u64 s 0 ≡ refused why)))
 
 -- Each promise is met by some answer, with some final content of what was lent, on every input: no claim over promises is empty.
 pub record NumbersMet : Type 0 where
@@ -149,9 +148,9 @@ pub record NumbersMet : Type 0 where
   pub room : (size at n : ℕ) → (r : Bool) × HasRoom size at n r
   pub walk : (s : List ℕ) (at : ℕ) → (r : Walked) × Walks s at r
   pub store : (m : ℕ) (below : Bool) (n : ℕ) (s : List ℕ) (at : ℕ) → (x : Written × List ℕ) × Both (Stores m below n s at) x
-  pub reply : (k : Reader) (s : List ℕ) (at : ℕ) → (r : Reply k) × Promised k s at r
-  pub written : (k : Reader) (v : Value k) (s : List ℕ) (at : ℕ) → (x : Written × List ℕ) × Both (Laying k v s at) x
-  pub length : (k : Reader) (v : Value k) → (n : Count) × Length k v n
+  pub reply : (k : Kind) (s : List ℕ) (at : ℕ) → (r : Reply k) × ReadsAs k s at r
+  pub written : (k : Kind) (v : Value k) (s : List ℕ) (at : ℕ) → (x : Written × List ℕ) × Both (WritesAs k v s at) x
+  pub length : (k : Kind) (v : Value k) → (n : Count) × TakesAs k v n
 
 -- And by no second: no second answer, and no second final content of what was lent.
 pub record NumbersOne : Type 0 where
@@ -160,24 +159,24 @@ pub record NumbersOne : Type 0 where
   pub walk : (s : List ℕ) (at : ℕ) (r r′ : Walked) → Walks s at r → Walks s at r′ → r ≡ r′
   pub store : (m : ℕ) (below : Bool) (n : ℕ) (s : List ℕ) (at : ℕ) (r r′ : Written) (out out′ : List ℕ)
       → Stores m below n s at r out → Stores m below n s at r′ out′ → (r ≡ r′) × (out ≡ out′)
-  pub reply : (k : Reader) (s : List ℕ) (at : ℕ) (r r′ : Reply k) → Promised k s at r → Promised k s at r′ → r ≡ r′
-  pub written : (k : Reader) (v : Value k) (s : List ℕ) (at : ℕ) (r r′ : Written) (out out′ : List ℕ)
-      → Laying k v s at r out → Laying k v s at r′ out′ → (r ≡ r′) × (out ≡ out′)
-  pub length : (k : Reader) (v : Value k) (r r′ : Count) → Length k v r → Length k v r′ → r ≡ r′
+  pub reply : (k : Kind) (s : List ℕ) (at : ℕ) (r r′ : Reply k) → ReadsAs k s at r → ReadsAs k s at r′ → r ≡ r′
+  pub written : (k : Kind) (v : Value k) (s : List ℕ) (at : ℕ) (r r′ : Written) (out out′ : List ℕ)
+      → WritesAs k v s at r out → WritesAs k v s at r′ out′ → (r ≡ r′) × (out ≡ out′)
+  pub length : (k : Kind) (v : Value k) (r r′ : Count) → TakesAs k v r → TakesAs k v r′ → r ≡ r′
 
 pub record OfNumbers : Type 0 where
   -- 1, 2. readers
-  pub accepts : (k : Reader) → Accepts k
-  pub refuses : (k : Reader) → Refuses k
-  pub excludes : (k : Reader) → Excludes k
-  pub exhausts : (k : Reader) → Exhausts k
+  pub accepts : (k : Kind) → Accepts k
+  pub refuses : (k : Kind) → Refuses k
+  pub excludes : (k : Kind) → Excludes k
+  pub exhausts : (k : Kind) → Exhausts k
   -- 3. writers
-  pub writes : (k : Reader) → Writes k
+  pub writes : (k : Kind) → Writes k
   -- 4. lengths
   pub shortest : Shortest
-  pub lengths : (k : Reader) (v : Value k) (n : Count) → Length k v n → n .0 ≡ length (form k v)
-  pub zero-takes-one : (k : Reader) → form k (zero-of k) ≡ 0 ∷ []
-  pub most : (k : Reader) → Most k
+  pub lengths : (k : Kind) (v : Value k) (n : Count) → TakesAs k v n → n .0 ≡ length (form k v)
+  pub zero-takes-one : (k : Kind) → form k (zeroOf k) ≡ 0 ∷ []
+  pub most : (k : Kind) → Most k
   -- 5. signed forms
   pub twos-complement : TwosComplement
   pub signed-form : (v : ℤ) → SignedForm v
@@ -187,13 +186,13 @@ pub record OfNumbers : Type 0 where
   pub write-alike : (v : ℕ) (s : List ℕ) (at : ℕ) (r r′ : Written) (out out′ : List ℕ) → WritesU64 v s at r out → WritesU64Rec v s at r′ out′
       → (r ≡ r′) × (out ≡ out′)
   -- 7. round trips
-  pub write-read : (k : Reader) → WriteRead k
-  pub read-write : (k : Reader) → ReadWrite k
-  pub more-behind : (k : Reader) → MoreBehind k
-  pub some-byte : (k : Reader) → SomeByte k
+  pub write-read : (k : Kind) → WriteRead k
+  pub read-write : (k : Kind) → ReadWrite k
+  pub more-behind : (k : Kind) → MoreBehind k
+  pub some-byte : (k : Kind) → SomeByte k
   -- 8. the source's definitions
   pub source-parse : SpecParse
-  pub source-serialize : (v : ℕ) → spec-serialize-helper v ≡ unsigned.form v
+  pub source-serialize : (v : ℕ) → specSerializeHelper v ≡ unsigned.form v
   -- 9. bytes to try
   pub starred : Starred
   -- 10. an answer, and no second

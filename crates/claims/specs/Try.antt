@@ -1,7 +1,7 @@
 -- Document 01, "Bytes to try": the rows marked *, as one table.
 --
 --   Rows w   each of these bytes, read at the width w from place 0 on, gets this answer
---   rows64, rows32, rows-i64   the rows at each width
+--   rows64, rows32, rowsI64   the rows at each width
 --   Starred  the table
 use Prim.Native.Nat.{ℕ, _-_, _^_}
 use mathlib.Core.List.{List, [], _∷_, _++_}
@@ -32,8 +32,8 @@ rows64 =
 abbrev pub rows32 : List (List ℕ × Answer (ℕ × ℕ))
 rows32 = (0xff ∷ 0xff ∷ 0xff ∷ 0xff ∷ 0x0f ∷ [], gives (2 ^ 32 - 1, 5)) ∷ []
 
-abbrev pub rows-i64 : List (List ℕ × Answer (ℤ × ℕ))
-rows-i64 =
+abbrev pub rowsI64 : List (List ℕ × Answer (ℤ × ℕ))
+rowsI64 =
     (0x7e ∷ [], gives (negℤ (pos 2), 1))
     ∷ (0xff ∷ 0x00 ∷ [], gives (pos 127, 2))
     ∷ (0x80 ∷ 0x7f ∷ [], gives (negℤ (pos 128), 2))
@@ -41,4 +41,4 @@ rows-i64 =
     ∷ []
 
 abbrev pub Starred : Type 0
-Starred = Rows u64 rows64 × Rows u32 rows32 × Rows i64 rows-i64
+Starred = Rows u64 rows64 × Rows u32 rows32 × Rows i64 rowsI64

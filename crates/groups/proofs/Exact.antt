@@ -19,8 +19,8 @@ use Rattle.groups.specs.Form.{say, spell}
 use Rattle.groups.specs.Width.{Width, tooLarge, tooMany}
 use Rattle.groups.proofs.Run.{run-low, run-high, in-run, at-run, pow-up}
 use Rattle.groups.proofs.Rows.{too-large, not-large, first-not-many}
-use Rattle.groups.proofs.Walks.{Sound}
-use Rattle.groups.proofs.Spelling.{say-below, said, say-say, say-high, Spelled, last, byte, spelled, unique, times-more, short, last-bounds, last-small, spelled-group}
+use Rattle.groups.proofs.FromWalk.{Sound}
+use Rattle.groups.proofs.Spelling.{say-below, said, say-say, say-high, Spelled, last, byte, spelled, times-more, last-bounds, last-small, spelled-group, spelled-unique, spelled-short}
 
 pub group-length : {g : List ℕ} → Group g → length g ≡ suc (run g)
 group-length (one {b} p) = rw (run-low b [] p)
@@ -102,7 +102,7 @@ module _ {A : Type 0} {w : Width A} {below : Bool} {small top : ℕ} (k : Spells
     below-not-large : m < 128 ^ (w .most - 1) * (top + 1) → tooLarge w g ≡ false
     below-not-large h =
         let n : length g ≤ suc (w .most - 1) =
-        short (k .low) (w .most - 1) s
+        spelled-short (k .low) (w .most - 1) s
         (omega (arith, mul-comm small (128 ^ (w .most - 1)), mul-le-mul-left (128 ^ (w .most - 1)) (k .under))) in
         not-large w g (omega (arith, size, k .sound .some))
         (λ e. last-allowed ∙ le-leb (say below (getD g (run g) 0)) top (at-most (128 ^ (w .most - 1))
@@ -147,7 +147,7 @@ module _ {A : Type 0} {w : Width A} {below : Bool} {small top : ℕ} (k : Spells
 
   -- and so it is the spelling of what it says
   pub shortest : {g : List ℕ} → Group g → say below (getD g (run g) 0) < small → tooMany w g ≡ false → g ≡ spell below small (said below g)
-  shortest {g} r h t = unique (recognized r h t) (spelled below small (k .some) (said below g))
+  shortest {g} r h t = spelled-unique (recognized r h t) (spelled below small (k .some) (said below g))
 
   pub accepts : {m : ℕ} → m < 128 ^ (w .most - 1) * (top + 1)
       → Group (spell below small m) × (tooLarge w (spell below small m) ≡ false) × (tooMany w (spell below small m) ≡ false)
@@ -181,7 +181,7 @@ module _ {A : Type 0} {w : Width A} {below : Bool} {small top : ℕ} (k : Spells
   longer {g} r h = (
     λ t.
         let q = too-many-small r h t in
-        omega (arith, group-length r, q .0, short (k .low) (run g - 1) (spelled below small (k .some) (said below g)) (q .1)),
+        omega (arith, group-length r, q .0, spelled-short (k .low) (run g - 1) (spelled below small (k .some) (said below g)) (q .1)),
     λ l. by-test (tooMany w g) (λ e. e) (λ e.
         let n : length g ≡ length (spell below small (said below g)) = ap length (shortest r h e) in
         absurd (omega arith)),

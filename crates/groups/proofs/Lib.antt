@@ -1,8 +1,8 @@
 pub mod Run
 pub mod Rows
-pub mod Walking
-pub mod Walks
+pub mod WalkLoop
+pub mod FromWalk
 pub mod Spelling
 pub mod Exact
-pub mod Standing
-pub mod Storing
+pub mod Stands
+pub mod StoreLoop

@@ -124,8 +124,8 @@ module _ {A X : Type 0} (w : Width A) where
 
 -- an answer keeps a promise where what is promised is the same, and so does one that keeps another promise of the same
 module _ {A : Type 0} {b : Answer A} where
-  pub keeps : {a : Answer A} → b ≡ a → Due b a
-  keeps e = record { is = sym e }
+  pub due-kept : {a : Answer A} → b ≡ a → Due b a
+  due-kept e = record { is = sym e }
 
-  pub passes : {b′ a : Answer A} → b ≡ b′ → Due b′ a → Due b a
-  passes e p = record { is = p .is ∙ sym e }
+  pub due-passed : {b′ a : Answer A} → b ≡ b′ → Due b′ a → Due b a
+  due-passed e p = record { is = p .is ∙ sym e }

@@ -103,9 +103,9 @@ pow-up i j h = pow-le-pow-right (omega arith) h
 
 -- low bytes that say less than the weight of a last one that says d: of at most k bytes in all, or of k + 1 with d at most top,
 -- they are below 128 to the k times top + 1
-pub limit : {low weight high d : ℕ} → low < weight → weight ≡ 128 ^ high → d < 128 → (k top : ℕ) → high ≤ k → (high ≡ k → d ≤ top)
+pub below-limit : {low weight high d : ℕ} → low < weight → weight ≡ 128 ^ high → d < 128 → (k top : ℕ) → high ≤ k → (high ≡ k → d ≤ top)
     → low + weight * d < 128 ^ k * (top + 1)
-limit {low} {weight} {high} {d} l e s k top h f =
+below-limit {low} {weight} {high} {d} l e s k top h f =
     by-order high k
     (λ lt.
     let a : weight * d ≤ weight * 127 = mul-le-mul-left weight (omega arith) in

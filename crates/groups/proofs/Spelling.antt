@@ -3,7 +3,7 @@
 --
 --   said below g        the number that a group's bytes spell
 --   Spelled m g         g spells m: the last byte says what is left, once it is below small
---   spelled, unique     `spell` gives such a list, and there is no other
+--   spelled, spelled-unique     `spell` gives such a list, and there is no other
 use Prim.Native.Nat.{ℕ, zero, suc, _+_, _*_, _/_, _%_, _^_, _≤_, _<_}
 use mathlib.Core.Path.{_≡_, refl, ap, sym, subst}
 use mathlib.Core.List.{List, [], _∷_}
@@ -16,7 +16,7 @@ use Rattle.words.specs.declared.Written.{Written}
 use Rattle.words.proofs.Cases.{by-order}
 use Rattle.groups.specs.Group.{run, Group, one, more, digits}
 use Rattle.groups.specs.Form.{say, groups, spellings, spell}
-use Rattle.words.specs.Laying.{Lays}
+use Rattle.words.specs.Lays.{Lays}
 use Rattle.groups.proofs.Run.{run-low, run-high, pow-up}
 
 pub say-below : (below : Bool) (d : ℕ) → d < 128 → say below d < 128
@@ -84,11 +84,11 @@ module _ (below : Bool) (small : ℕ) (some : 0 < small) where
   unfolding spell
   spelled m = spelled-within m m (omega arith)
 
-pub unique : {below : Bool} {small m : ℕ} {g h : List ℕ} → Spelled below small m g → Spelled below small m h → g ≡ h
-unique (last p) (last q) = refl
-unique (last p) (byte q s) = absurd (omega arith)
-unique (byte p r) (last q) = absurd (omega arith)
-unique (byte p r) (byte q s) = rw (unique r s)
+pub spelled-unique : {below : Bool} {small m : ℕ} {g h : List ℕ} → Spelled below small m g → Spelled below small m h → g ≡ h
+spelled-unique (last p) (last q) = refl
+spelled-unique (last p) (byte q s) = absurd (omega arith)
+spelled-unique (byte p r) (last q) = absurd (omega arith)
+spelled-unique (byte p r) (byte q s) = rw (spelled-unique r s)
 
 pub some-bytes : {below : Bool} {small m : ℕ} {g : List ℕ} → Spelled below small m g → 0 < length g
 some-bytes (last p) = omega arith
@@ -127,12 +127,12 @@ module _ {below : Bool} {small : ℕ} (small-low : small ≤ 128) where
       subst (λ (b : List ℕ). Lays b s at r out) (rw e (sym (spelled-groups p))) h
 
   -- k + 1 bytes are enough exactly for what is below small times 128 to the k
-  pub short : {m : ℕ} {g : List ℕ} (k : ℕ) → Spelled below small m g → m < small * 128 ^ k → length g ≤ suc k
-  short k (last p) h = omega arith
-  short zero (byte p r) h = absurd (omega arith)
-  short (suc k) (byte {m} p r) h =
+  pub spelled-short : {m : ℕ} {g : List ℕ} (k : ℕ) → Spelled below small m g → m < small * 128 ^ k → length g ≤ suc k
+  spelled-short k (last p) h = omega arith
+  spelled-short zero (byte p r) h = absurd (omega arith)
+  spelled-short (suc k) (byte {m} p r) h =
       let q : m / 128 < small * 128 ^ k = omega (arith, times-more small k) in
-      omega (arith, short k r q)
+      omega (arith, spelled-short k r q)
 
   pub small-enough : {m : ℕ} {g : List ℕ} (k : ℕ) → Spelled below small m g → length g ≤ suc k → m < small * 128 ^ k
   small-enough k (last p) h = omega (arith, mul-le-mul-left small (pow-up 0 k (omega arith)))

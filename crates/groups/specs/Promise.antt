@@ -16,7 +16,7 @@ use Rattle.groups.specs.declared.Walked.the-variants.{Past, Open, Long, 
 use mathlib.Core.Bool.{Bool}
 use Rattle.words.specs.declared.Written.{Written}
 use Rattle.groups.specs.Form.{groups}
-use Rattle.words.specs.Laying.{Lays}
+use Rattle.words.specs.Lays.{Lays}
 
 unfoldable pub walking : List ℕ → Walked
 walking l =

@@ -1,4 +1,4 @@
 pub mod Lines
-pub mod Left
-pub mod Taking
+pub mod TextLeft
+pub mod LineGiven
 pub mod OneNext

@@ -1,8 +1,8 @@
 -- What comes next, from what was laid down in the buffer.
 --
---   fronts         the line that comes next, put to the buffer's front, is given
---   comes          so it is if it fits into line-room bytes and was laid down there
---   none, refuses  nothing is given, or a refusal is, and the buffer is kept; no-room where the buffer is too small for a line
+--   line-fronts         the line that comes next, put to the buffer's front, is given
+--   line-comes          so it is if it fits into `lineRoom` bytes and was laid down there
+--   line-none, refuses  nothing is given, or a refusal is, and the buffer is kept; line-no-room where the buffer is too small for a line
 --   row-fits       a row of numbers of 64 bits fits; fault-short: so short is the name of a fault
 --   other-fault    a fault that isn't not-shortest is an overflow
 use Prim.Native.Nat.{ℕ, suc, _^_, _≤_, _<_}
@@ -23,37 +23,37 @@ use Rattle.words.specs.declared.Count.{Count}
 use Rattle.words.specs.declared.Refusal.{Refusal}
 use Rattle.words.proofs.Refusal.{parts, the-type}
 use Rattle.words.specs.declared.Refusal.the-variants.{NoRoom, NotShortest}
-use Rattle.texts.specs.Texts.{ascii, Lays}
+use Rattle.texts.specs.Texts.{ascii, LaysText}
 use Rattle.texts.proofs.Decimals.{at-most-20}
-use Rattle.texts.proofs.Laying.{front, front-count}
-use Rattle.listing.specs.Listing.{line, over, refuses, line-room, row, fault, next}
+use Rattle.texts.proofs.LaysText.{front-laid, front-count}
+use Rattle.listing.specs.Listing.{line, over, refuses, row, fault, next, lineRoom}
 use Rattle.listing.specs.Promise.{meansListing, GivesLine}
 use Rattle.listing.specs.declared.Listing.{Listing}
 use Rattle.listing.specs.declared.Next.the-variants as X
 
 module _ {g : Listing} {s before : List ℕ} where
-  pub no-room : length before < line-room → GivesLine g s before (X.Refused NoRoom) before
-  no-room h = record { answer = rw (lt-ltb (length before) line-room h); leaves = rw (lt-ltb (length before) line-room h) }
+  pub line-no-room : length before < lineRoom → GivesLine g s before (X.Refused NoRoom) before
+  line-no-room h = record { answer = rw (lt-ltb (length before) lineRoom h); leaves = rw (lt-ltb (length before) lineRoom h) }
 
-  module _ (room : line-room ≤ length before) where
-    pub fronts : {g′ : Listing} {t : List ℕ} → next s (meansListing g) ≡ line t (meansListing g′)
+  module _ (room : lineRoom ≤ length before) where
+    pub line-fronts : {g′ : Listing} {t : List ℕ} → next s (meansListing g) ≡ line t (meansListing g′)
         → GivesLine g s before (X.Line (record { 0 = length t }) g′) (t ++ drop (length t) before)
-    fronts e = record { answer = rw (le-ltb (length before) line-room room, e); leaves = rw (le-ltb (length before) line-room room, e) }
+    line-fronts e = record { answer = rw (le-ltb (length before) lineRoom room, e); leaves = rw (le-ltb (length before) lineRoom room, e) }
 
-    pub comes : {g′ : Listing} {n : Count} {t after : List ℕ}
-        → next s (meansListing g) ≡ line t (meansListing g′) → length t ≤ line-room → Lays t before 0 (n .0) after → GivesLine g s before (X.Line n g′) after
-    comes {g′} e fits p = record {
-      answer = rw (le-ltb (length before) line-room room, e) (ap (λ (m : ℕ). line m (meansListing g′)) (front-count (omega arith) p));
-      leaves = rw (le-ltb (length before) line-room room, e) (front (omega arith) p);
+    pub line-comes : {g′ : Listing} {n : Count} {t after : List ℕ}
+        → next s (meansListing g) ≡ line t (meansListing g′) → length t ≤ lineRoom → LaysText t before 0 (n .0) after → GivesLine g s before (X.Line n g′) after
+    line-comes {g′} e fits p = record {
+      answer = rw (le-ltb (length before) lineRoom room, e) (ap (λ (m : ℕ). line m (meansListing g′)) (front-count (omega arith) p));
+      leaves = rw (le-ltb (length before) lineRoom room, e) (front-laid (omega arith) p);
     }
 
-    pub none : next s (meansListing g) ≡ over → GivesLine g s before X.Ended before
-    none e = record { answer = rw (le-ltb (length before) line-room room, e); leaves = rw (le-ltb (length before) line-room room, e) }
+    pub line-none : next s (meansListing g) ≡ over → GivesLine g s before X.Ended before
+    line-none e = record { answer = rw (le-ltb (length before) lineRoom room, e); leaves = rw (le-ltb (length before) lineRoom room, e) }
 
-    pub refused : {why : Refusal} → next s (meansListing g) ≡ refuses (because why) → GivesLine g s before (X.Refused why) before
-    refused e = record { answer = rw (le-ltb (length before) line-room room, e); leaves = rw (le-ltb (length before) line-room room, e) }
+    pub line-refused : {why : Refusal} → next s (meansListing g) ≡ refuses (because why) → GivesLine g s before (X.Refused why) before
+    line-refused e = record { answer = rw (le-ltb (length before) lineRoom room, e); leaves = rw (le-ltb (length before) lineRoom room, e) }
 
-pub row-fits : (p v : ℕ) (what : List ℕ) → p < 2 ^ 64 → v < 2 ^ 64 → length what ≤ 12 → length (row p what v) ≤ line-room
+pub row-fits : (p v : ℕ) (what : List ℕ) → p < 2 ^ 64 → v < 2 ^ 64 → length what ≤ 12 → length (row p what v) ≤ lineRoom
 unfolding row
 row-fits p v what h k w = simp length-append (omega (arith, at-most-20 p h, at-most-20 v k))
 

@@ -5,7 +5,7 @@
 --   groupRow p g      that of the group g at the place p: its number, or else its fault and its length; `rowOf`: from its reading
 --   rows p gs t       those of the groups gs and of the tail t, one after another, from the place p on
 --   text s            the whole listing of an input s: the header and the rows; above the limit the one line `refused 7`
---   line-room         a buffer of so many bytes holds every line
+--   lineRoom         a buffer of so many bytes holds every line
 --   Stage             how far a listing has come: at its top, at a place of the block, or ended
 --   Coming, next s g  what comes next: a line and the stage behind it, nothing, or a refusal; `lineOf`: from what a step says
 use Prim.Native.Nat.{ℕ, _+_}
@@ -16,7 +16,7 @@ use Rattle.words.specs.Answer.{pick, Answer, gives, refused, Why, numberIn}
 use Rattle.groups.specs.Width.{reading}
 use Rattle.texts.specs.Texts.{ascii, decimal}
 use Rattle.uleb128.specs.Unsigned.{u64}
-use Rattle.blocks.specs.Block.{block-limit, unsigned, signed, Stepped, number, gap, tail, finished, stepping}
+use Rattle.blocks.specs.Block.{unsigned, signed, Stepped, number, gap, tail, finished, stepping, blockLimit}
 use Rattle.blocks.specs.Block as B
 use Rattle.blocks.specs.GroupsAndTail.{cut}
 use Rattle.blocks.specs.declared.Rule.the-variants.{Unsigned}
@@ -42,11 +42,11 @@ rows p (g ∷ gs) t = groupRow p g ++ rows (p + length g) gs t
 
 unfoldable pub text : List ℕ → List ℕ
 text s =
-    pick (ltb block-limit (length s)) (ascii "refused 7\n")
+    pick (ltb blockLimit (length s)) (ascii "refused 7\n")
     (ascii "place what value\n" ++ rows 0 (cut s .groups) (cut s .tail))
 
-abbrev pub line-room : ℕ
-line-room = 64
+abbrev pub lineRoom : ℕ
+lineRoom = 64
 
 pub data Stage : Type 0 where
   top : Stage
@@ -68,6 +68,6 @@ lineOf p (finished q) = over
 lineOf p (B.refuses k) = refuses k
 
 abbrev pub next : List ℕ → Stage → Coming (List ℕ)
-next s top = pick (ltb block-limit (length s)) (line (ascii "refused 7\n") ended) (line (ascii "place what value\n") (at 0))
+next s top = pick (ltb blockLimit (length s)) (line (ascii "refused 7\n") ended) (line (ascii "place what value\n") (at 0))
 next s (at p) = lineOf p (stepping Unsigned s p)
 next s ended = over

@@ -10,7 +10,7 @@ use mathlib.Core.Path.{_≡_}
 use lib.Dec.{ltb}
 use lib.ListN.{length, drop}
 use Rattle.words.specs.Answer.{pick, by, because}
-use Rattle.listing.specs.Listing.{Stage, top, at, ended, Coming, line, over, refuses, line-room, next}
+use Rattle.listing.specs.Listing.{Stage, top, at, ended, Coming, line, over, refuses, next, lineRoom}
 use Rattle.listing.specs.declared.Listing.{Listing}
 use Rattle.listing.specs.declared.Listing.the-variants as L
 use Rattle.listing.specs.declared.Next.{Next}
@@ -27,7 +27,7 @@ meansNext X.Ended = over
 meansNext (X.Refused why) = refuses (because why)
 
 abbrev pub asked : List ℕ → Stage → ℕ → Coming (List ℕ)
-asked s g room = pick (ltb room line-room) (refuses (by 5)) (next s g)
+asked s g room = pick (ltb room lineRoom) (refuses (by 5)) (next s g)
 
 abbrev pub counted : Coming (List ℕ) → Coming ℕ
 counted (line l g) = line (length l) g

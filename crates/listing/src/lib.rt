@@ -13,8 +13,8 @@ use words::Refusal;
 ghost use Prim.Native.Nat.{_≤_};
 ghost use lib.ListN.{length};
 ghost use Rattle.words.specs.Refusal.{numberOf};
-ghost use Rattle.texts.specs.Texts.{Lays};
-ghost use Rattle.listing.specs.Listing.{line-room, fault, row as rowOf};
+ghost use Rattle.texts.specs.Texts.{LaysText};
+ghost use Rattle.listing.specs.Listing.{fault, row as rowOf, lineRoom};
 ghost use Rattle.words.specs.Answer.{because};
 ghost use Rattle.listing.specs.Promise.{GivesLine};
 
@@ -40,7 +40,7 @@ pub enum Next {
 
 // `PLACE WHAT VALUE`, and where it ends.
 fn row(place: Place, what: &[u8], value: u64, line: &mut [u8]) -> Place
-    ensures { λ r. ⌜ Lays (rowOf (place .0) (now (what .entry)) value) (now (line .entry)) 0 (r .0) (now (line .exit)) ⌝ }
+    ensures { λ r. ⌜ LaysText (rowOf (place .0) (now (what .entry)) value) (now (line .entry)) 0 (r .0) (now (line .exit)) ⌝ }
 {
     let at = place.0;
     let placed = texts::decimal(at as u64, line, Place(0));
@@ -53,7 +53,7 @@ fn row(place: Place, what: &[u8], value: u64, line: &mut [u8]) -> Place
 
 // The row of a group that is no number: its fault and its length.
 fn gap_row(place: Place, refusal: Refusal, count: Count, line: &mut [u8]) -> Place
-    ensures { λ r. ⌜ Lays (rowOf (place .0) (fault (because refusal)) (count .0)) (now (line .entry)) 0 (r .0) (now (line .exit)) ⌝ }
+    ensures { λ r. ⌜ LaysText (rowOf (place .0) (fault (because refusal)) (count .0)) (now (line .entry)) 0 (r .0) (now (line .exit)) ⌝ }
 {
     let length = count.0;
     match refusal {
@@ -64,7 +64,7 @@ fn gap_row(place: Place, refusal: Refusal, count: Count, line: &mut [u8]) -> Pla
 
 // The line of what stands at the cursor: a group's number, or its fault and its length; or the tail's length.
 fn line_at(cursor: Cursor, block: &[u8], line: &mut [u8]) -> Next
-    requires { ⌜ line-room ≤ length (now line) ⌝ }
+    requires { ⌜ lineRoom ≤ length (now line) ⌝ }
     ensures { λ r. ⌜ GivesLine (Listing.At cursor) (now (block .entry)) (now (line .entry)) r (now (line .exit)) ⌝ }
 {
     let place = cursor.place;

@@ -1,8 +1,8 @@
-pub mod Totals
-pub mod Layings
-pub mod Fronts
-pub mod Passing
-pub mod Scanning
-pub mod Answers
-pub mod Filling
+pub mod TotalLoop
+pub mod LayLoop
+pub mod NumbersInFront
+pub mod NumbersAtStart
+pub mod ScanLoop
+pub mod StrictAnswers
+pub mod FillLoop
 pub mod OneList

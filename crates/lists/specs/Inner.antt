@@ -14,7 +14,7 @@ use mathlib.Core.List.{List, _∷_}
 use mathlib.Core.Path.{_≡_}
 use lib.ListN.{length, drop}
 use Rattle.words.specs.Answer.{Answer, gives, refused, because}
-use Rattle.blocks.specs.Block.{block-limit}
+use Rattle.blocks.specs.Block.{blockLimit}
 use Rattle.blocks.specs.GroupsAndTail.{Start}
 use Rattle.lists.specs.Strict.{numbers}
 use Rattle.lists.specs.declared.reading.Passed.{Passed}
@@ -35,11 +35,11 @@ Room (gives ns) i room = i + length ns ≤ room
 Room (refused k) i room = ⊥
 
 pub record Fits (s : List ℕ) (room : ℕ) : Type 0 where
-  pub short : length s ≤ block-limit
+  pub short : length s ≤ blockLimit
   pub enough : Room (numbers s) 0 room
 
 pub record StartsBefore (s : List ℕ) (p : ℕ) : Type 0 where
-  pub short : length s ≤ block-limit
+  pub short : length s ≤ blockLimit
   pub before-end : p < length s
   pub start : Start s p
 

@@ -1,13 +1,13 @@
 -- Document 01, "Blocks, groups and tails": list writing.
 --
---   list-limit   the most numbers of a list
+--   listLimit   the most numbers of a list
 --   forms ns     the forms of the numbers, one after another
 use Prim.Native.Nat.{ℕ}
 use mathlib.Core.List.{List, [], _∷_, _++_}
 use Rattle.uleb128.specs.Unsigned.{form}
 
-abbrev pub list-limit : ℕ
-list-limit = 4096
+abbrev pub listLimit : ℕ
+listLimit = 4096
 
 unfoldable pub forms : List ℕ → List ℕ
 forms [] = []

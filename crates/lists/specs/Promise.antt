@@ -10,15 +10,15 @@ use lib.Dec.{ltb}
 use lib.ListN.{length}
 use Rattle.words.specs.Answer.{pick, refused, meansWritten, Answer, gives, by, because}
 use Rattle.words.specs.declared.Written.{Written}
-use Rattle.words.specs.Laying.{writing, laid}
-use Rattle.lists.specs.Lists.{list-limit, forms}
+use Rattle.words.specs.Lays.{writing, laid}
+use Rattle.lists.specs.Lists.{forms, listLimit}
 use Rattle.lists.specs.Strict.{strict, filled}
 use Rattle.lists.specs.declared.ReadList.{ReadList}
 use Rattle.lists.specs.declared.ReadList.the-variants.{Filled, Refused}
 
 pub record WritesList (ns s : List ℕ) (at : ℕ) (r : Written) (out : List ℕ) : Type 0 where
-  pub answer : meansWritten r ≡ pick (ltb list-limit (length ns)) (refused (by 7)) (writing s at (length (forms ns)))
-  pub leaves : out ≡ pick (ltb list-limit (length ns)) s (laid s at (forms ns))
+  pub answer : meansWritten r ≡ pick (ltb listLimit (length ns)) (refused (by 7)) (writing s at (length (forms ns)))
+  pub leaves : out ≡ pick (ltb listLimit (length ns)) s (laid s at (forms ns))
 
 abbrev pub meansReadList : ReadList → Answer ℕ
 meansReadList (Filled n) = gives (n .0)

@@ -12,7 +12,7 @@ use lib.ListN.{length, drop}
 use Rattle.words.specs.Answer.{pick, Answer, gives, refused, by}
 use Rattle.groups.specs.Width.{reading}
 use Rattle.uleb128.specs.Unsigned.{u64}
-use Rattle.blocks.specs.Block.{block-limit}
+use Rattle.blocks.specs.Block.{blockLimit}
 use Rattle.blocks.specs.GroupsAndTail.{cut}
 
 abbrev pub joined : Answer (ℕ × ℕ) → Answer (List ℕ) → Answer (List ℕ)
@@ -37,7 +37,7 @@ filling (refused k) old = old
 filling (gives ns) old = pick (leb (length ns) (length old)) (ns ++ drop (length ns) old) old
 
 unfoldable pub strict : List ℕ → ℕ → Answer ℕ
-strict s room = pick (ltb block-limit (length s)) (refused (by 7)) (counted (numbers s) room)
+strict s room = pick (ltb blockLimit (length s)) (refused (by 7)) (counted (numbers s) room)
 
 unfoldable pub filled : List ℕ → List ℕ → List ℕ
-filled s old = pick (ltb block-limit (length s)) old (filling (numbers s) old)
+filled s old = pick (ltb blockLimit (length s)) old (filling (numbers s) old)

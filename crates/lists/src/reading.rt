@@ -10,7 +10,7 @@ use words::Place;
 use words::Refusal;
 ghost use Prim.Native.Nat.{_≤_};
 ghost use lib.ListN.{length};
-ghost use Rattle.blocks.specs.Block.{block-limit};
+ghost use Rattle.blocks.specs.Block.{blockLimit};
 ghost use Rattle.lists.specs.Inner.{StartsBefore, Passes, Scans, Fits};
 ghost use Rattle.lists.specs.Promise.{ReadsStrict};
 
@@ -51,7 +51,7 @@ fn pass(block: &[u8], at: usize) -> Passed
 
 // The first pass: counts the numbers, and stores none.
 fn scan(block: &[u8]) -> Scanned
-    requires { ⌜ length (now block) ≤ block-limit ⌝ }
+    requires { ⌜ length (now block) ≤ blockLimit ⌝ }
     ensures { λ r. ⌜ Scans (now (block .entry)) r ⌝ }
 {
     let mut at: usize = 0;

@@ -9,8 +9,8 @@ use words::has_room;
 ghost use mathlib.Core.Path.{_≡_};
 ghost use Prim.Native.Nat.{_+_, _≤_};
 ghost use lib.ListN.{length};
-ghost use Rattle.words.specs.Laying.{Lays, Takes};
-ghost use Rattle.lists.specs.Lists.{list-limit, forms};
+ghost use Rattle.words.specs.Lays.{Lays, Takes};
+ghost use Rattle.lists.specs.Lists.{forms, listLimit};
 ghost use Rattle.lists.specs.Promise.{WritesList};
 
 // The most numbers of a list.
@@ -18,7 +18,7 @@ const LIST_LIMIT: usize = 4096;
 
 // How many bytes the numbers' forms take in all.
 fn total_length(numbers: &[u64]) -> Count
-    requires { ⌜ length (now numbers) ≤ list-limit ⌝ }
+    requires { ⌜ length (now numbers) ≤ listLimit ⌝ }
     ensures { λ r. ⌜ Takes (forms (now (numbers .entry))) r ⌝ }
 {
     let mut total: usize = 0;

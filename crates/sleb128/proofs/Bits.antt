@@ -20,8 +20,8 @@ below-sign v f = rw (toZ-ofZ w64 v f) (sign v)
     sign (negsuc n) = refl
 
 -- a number in range, from its bits
-pub back : (v : ℤ) → mag v < 2 ^ 63 → toZ w64 (ofZ w64 v) ≡ v
-back v h = toZ-ofZ w64 v (record { sfits = h })
+pub word-back : (v : ℤ) → mag v < 2 ^ 63 → toZ w64 (ofZ w64 v) ≡ v
+word-back v h = toZ-ofZ w64 v (record { sfits = h })
 
 -- the complement of a magnitude's bits is the number below zero
 pub complement : (m : ℕ) → m < 2 ^ 63 → toZ w64 (18446744073709551615 - m) ≡ negsuc m

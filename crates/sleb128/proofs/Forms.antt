@@ -2,7 +2,7 @@
 use native.Mathlib.Omega.{arith}
 use lib.IntN.{ℤ}
 use lib.Signed.{mag}
-use Rattle.groups.proofs.Spelling.{Spelled, spelled, spelled-laid, some-bytes, short, small-enough}
+use Rattle.groups.proofs.Spelling.{Spelled, spelled, spelled-laid, some-bytes, small-enough, spelled-short}
 use Rattle.sleb128.specs.Signed.{below, form}
 use Prim.Native.Nat.{ℕ, _-_, _*_, _^_, _≤_, _<_}
 use mathlib.Core.Path.{_≡_}
@@ -12,7 +12,7 @@ use native.Mathlib.Nat.{le-antisymm}
 use lib.ListN.{length}
 use Rattle.words.specs.declared.Written.{Written}
 use Rattle.groups.specs.Form.{groups}
-use Rattle.words.specs.Laying.{Lays}
+use Rattle.words.specs.Lays.{Lays}
 use Rattle.uleb128.specs.Unsigned.{form as unsigned-form}
 use Rattle.uleb128.proofs.Forms.{form-spelled as unsigned-spelled}
 
@@ -25,7 +25,7 @@ no-longer : {s t : Bool} {a b m n : ℕ} {g h : List ℕ} → a ≤ 128 → b �
     → ((p : ℕ) → m < b * p → n < a * p) → length g ≤ length h
 no-longer {h = h} la lb p q f =
     let k = length h - 1 in
-    omega (arith, some-bytes q, short la k p (f (128 ^ k) (small-enough lb k q (omega (arith, some-bytes q)))))
+    omega (arith, some-bytes q, spelled-short la k p (f (128 ^ k) (small-enough lb k q (omega (arith, some-bytes q)))))
 
 pub form-length : (v : ℤ) → length (form v) ≡ length (unsigned-form (mag v * 2))
 form-length v =

@@ -1,6 +1,6 @@
 pub mod Bits
-pub mod Closings
+pub mod ClosingRows
 pub mod Widths
-pub mod ClosedGroups
+pub mod SignedGroups
 pub mod Forms
-pub mod Exactly
+pub mod ReadsForms

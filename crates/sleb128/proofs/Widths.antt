@@ -9,7 +9,7 @@ use lib.Dec.{leb, ltb, eqb}
 use lib.Pow.{pow-add}
 use Rattle.words.proofs.Cases.{by-order}
 use Rattle.groups.specs.Form.{say}
-use Rattle.groups.proofs.Walks.{Sound}
+use Rattle.groups.proofs.FromWalk.{Sound}
 use Rattle.groups.proofs.Exact.{Spells}
 use Rattle.sleb128.specs.Signed.{i64}
 

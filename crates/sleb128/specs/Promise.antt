@@ -14,7 +14,7 @@ use Rattle.sleb128.specs.declared.ReadI64.{ReadI64}
 use Rattle.sleb128.specs.declared.ReadI64.the-variants.{Number, Refused}
 use Rattle.words.specs.declared.Count.{Count}
 use Rattle.words.specs.declared.Written.{Written}
-use Rattle.words.specs.Laying.{Lays, Takes}
+use Rattle.words.specs.Lays.{Lays, Takes}
 
 abbrev pub meansReadI64 : ReadI64 → Answer (ℤ × ℕ)
 meansReadI64 (Number v n) = gives (v, n .0)

@@ -12,7 +12,7 @@ use Rattle.words.proofs.Cases.{by-order}
 use borrow.Author.Tests.{lt-ltb, le-ltb}
 use lib.ListN.{length, length-append}
 use Rattle.io.specs.Digits.{digits, glyph, Fewest}
-use Rattle.texts.specs.Texts.{decimal, decimal-within, Lays}
+use Rattle.texts.specs.Texts.{decimal, decimalWithin, LaysText}
 
 -- l is the digits of v
 pub data Spelled : ℕ → List ℕ → Type 0 where
@@ -25,13 +25,13 @@ unique (one h) (more k q) = absurd (omega arith)
 unique (more h p) (one k) = absurd (omega arith)
 unique {v} (more h p) (more k q) = ap (λ (l : List ℕ). l ++ (48 + v % 10) ∷ []) (unique p q)
 
-within : (n v : ℕ) → v ≤ n → Spelled v (decimal-within n v)
-unfolding decimal-within
+within : (n v : ℕ) → v ≤ n → Spelled v (decimalWithin n v)
+unfolding decimalWithin
 within zero v h = one {v = v} (omega arith)
 within (suc n) v h =
     by-order v 10
-    (λ b. rw (lt-ltb v 10 b, decimal-within) (one b))
-    (λ b. rw (le-ltb v 10 b, decimal-within) (more b (within n (v / 10) (omega arith))))
+    (λ b. rw (lt-ltb v 10 b, decimalWithin) (one b))
+    (λ b. rw (le-ltb v 10 b, decimalWithin) (more b (within n (v / 10) (omega arith))))
 
 spelled : (v : ℕ) → Spelled v (decimal v)
 unfolding decimal
@@ -65,7 +65,7 @@ fewest : (k v : ℕ) → Fewest 10 1 v k → digits 10 k v ≡ decimal v
 fewest k v f = unique (digits-spelled k v f) (spelled v)
 
 -- those digits, laid down
-pub lays-decimal : (k v : ℕ) {t s s′ : List ℕ} {at r : ℕ} → Fewest 10 1 v k → t ≡ digits 10 k v → Lays t s at r s′ → Lays (decimal v) s at r s′
+pub lays-decimal : (k v : ℕ) {t s s′ : List ℕ} {at r : ℕ} → Fewest 10 1 v k → t ≡ digits 10 k v → LaysText t s at r s′ → LaysText (decimal v) s at r s′
 lays-decimal k v f e p = rw (← (fewest k v f), ← e) p
 
 at-most : (k : ℕ) {v : ℕ} {l : List ℕ} → Spelled v l → v < 10 ^ suc k → length l ≤ suc k

@@ -8,7 +8,7 @@ use native.Mathlib.Numerals.{add-one}
 use native.Mathlib.Omega.{arith}
 use lib.ListN.{length}
 use Rattle.words.proofs.Cases.{by-order}
-use Rattle.groups.proofs.Spelling.{Spelled, last, byte, spelled, unique, some-bytes, short, small-enough}
+use Rattle.groups.proofs.Spelling.{Spelled, last, byte, spelled, some-bytes, small-enough, spelled-unique, spelled-short}
 use Rattle.uleb128.specs.Unsigned.{form}
 
 pow-more : (k : ℕ) → 128 ^ (k + 1) ≡ 128 * 128 ^ k
@@ -19,17 +19,17 @@ unfolding form
 form-spelled v = spelled false 128 (omega arith) v
 
 pub form-small : (v : ℕ) → v < 128 → form v ≡ v ∷ []
-form-small v h = unique (form-spelled v) (last h)
+form-small v h = spelled-unique (form-spelled v) (last h)
 
 pub form-large : (v : ℕ) → 128 ≤ v → form v ≡ (128 + v % 128) ∷ form (v / 128)
-form-large v h = unique (form-spelled v) (byte h (form-spelled (v / 128)))
+form-large v h = spelled-unique (form-spelled v) (byte h (form-spelled (v / 128)))
 
 pub form-some : (v : ℕ) → 0 < length (form v)
 form-some v = some-bytes (form-spelled v)
 
 -- k + 1 bytes are enough exactly below 128 to the k + 1
 pub form-short : (v k : ℕ) → v < 128 ^ (k + 1) → length (form v) ≤ k + 1
-form-short v k h = omega (arith, short (omega arith) k (form-spelled v) (omega (arith, pow-more k)))
+form-short v k h = omega (arith, spelled-short (omega arith) k (form-spelled v) (omega (arith, pow-more k)))
 
 pub form-long : (v k : ℕ) → 128 ^ (k + 1) ≤ v → k + 1 < length (form v)
 form-long v k h =

@@ -1,4 +1,4 @@
 pub mod Forms
 pub mod Lookup
 pub mod Widths
-pub mod Exactly
+pub mod ReadsForms

@@ -10,8 +10,8 @@ use lib.ListN.{length, drop}
 use Rattle.words.specs.Answer.{gives, refused, by}
 use Rattle.groups.specs.Group.{run}
 use Rattle.groups.specs.Width.{Reads}
-use Rattle.groups.proofs.Rows.{read-past, keeps}
-use Rattle.groups.proofs.Walks.{Sound, Opening, Closing, overrun, open-short, closed-large, closed-many, closed-number, closed-digits, closed-limit}
+use Rattle.groups.proofs.Rows.{read-past, due-kept}
+use Rattle.groups.proofs.FromWalk.{Sound, Opening, Closing, overrun, open-short, closed-large, closed-many, closed-number, closed-digits, closed-limit}
 use Rattle.groups.proofs.Exact.{Spells}
 use Rattle.uleb128.specs.Unsigned.{unsigned}
 use Rattle.uleb128.specs.Inner.{Wide}
@@ -39,27 +39,27 @@ module _ (most top : ℕ) (wide : Wide most top) (s : List ℕ) (at : ℕ) where
   wide-sound = sound most top (omega (arith, wide .some)) (wide .low)
 
   pub says-past : length s < at → Reads (unsigned most top) s at (refused (by 4))
-  says-past h = keeps (read-past (unsigned most top) s at h)
+  says-past h = due-kept (read-past (unsigned most top) s at h)
 
   pub says-end : {high : ℕ} → Opening s at high → high < most → Reads (unsigned most top) s at (refused (by 1))
-  says-end o h = keeps (open-short (unsigned most top) wide-sound s at o h)
+  says-end o h = due-kept (open-short (unsigned most top) wide-sound s at o h)
 
   pub says-overrun : at ≤ length s → most ≤ run (drop at s) → Reads (unsigned most top) s at (refused (by 2))
-  says-overrun h m = keeps (overrun (unsigned most top) wide-sound s at h m)
+  says-overrun h m = due-kept (overrun (unsigned most top) wide-sound s at h m)
 
   module _ {sum weight high last : ℕ} (c : Closing s at sum weight high last) where
     pub says-large : high + 1 ≡ most → top < last → Reads (unsigned most top) s at (refused (by 2))
-    says-large e h = keeps (closed-large (unsigned most top) wide-sound s at c e (lt-leb last top h))
+    says-large e h = due-kept (closed-large (unsigned most top) wide-sound s at c e (lt-leb last top h))
 
     pub says-many : high < most → 0 < high → last < 1 → Reads (unsigned most top) s at (refused (by 3))
     says-many m h z =
-        keeps
+        due-kept
         (closed-many (unsigned most top) wide-sound s at c (omega arith) (λ e. le-leb last top (omega arith)) h (eq-eqb last 0 (omega arith)))
 
     module _ (m : high < most) (l : high + 1 ≡ most → last ≤ top) where
       pub says-number : (0 < high → 0 < last) → Reads (unsigned most top) s at (gives (sum + weight * last, high + 1))
       says-number n =
-          keeps
+          due-kept
           (closed-number (unsigned most top) wide-sound s at c (omega arith) (λ e. le-leb last top (l e))
           (λ h. ne-eqb last 0 (λ z. omega (arith, n h)))
           ∙ rw (closed-digits c))

@@ -9,7 +9,7 @@ use Prim.Native.Nat.{ℕ}
 use mathlib.Core.List.{List}
 use Rattle.words.specs.declared.Count.{Count}
 use Rattle.words.specs.declared.Written.{Written}
-use Rattle.words.specs.Laying.{Lays, Takes}
+use Rattle.words.specs.Lays.{Lays, Takes}
 use Rattle.uleb128.specs.Unsigned.{form, u64, u32}
 use Rattle.words.specs.Answer.{Answer, gives, refused, because}
 use Rattle.groups.specs.Width.{Width, Reads}

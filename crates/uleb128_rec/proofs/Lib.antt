@@ -1,2 +1,2 @@
-pub mod Steps
-pub mod Stores
+pub mod ByteInFront
+pub mod BytesStored

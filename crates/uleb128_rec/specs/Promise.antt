@@ -8,7 +8,7 @@ use Rattle.uleb128.specs.Unsigned.{u64, form}
 use Rattle.uleb128.specs.Promise.{Reads64}
 use Rattle.uleb128.specs.declared.ReadU64.{ReadU64}
 use Rattle.words.specs.declared.Written.{Written}
-use Rattle.words.specs.Laying.{Lays}
+use Rattle.words.specs.Lays.{Lays}
 
 abbrev pub ReadsU64Rec : List ℕ → ℕ → ReadU64 → Type 0
 ReadsU64Rec s at r = Reads64 u64 s at r

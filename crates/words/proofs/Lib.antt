@@ -1,4 +1,4 @@
 pub mod Cases
 pub mod OneNumber
-pub mod Laying
+pub mod Lays
 pub mod OneMeaning

@@ -15,7 +15,7 @@ use mathlib.Core.Path.{_≡_, refl, ap, sym, _∙_, subst}
 use mathlib.Core.Logic.{_↔_}
 use native.Mathlib.Omega.{arith}
 use Rattle.words.specs.Answer.{Answer, gives, refused, meansWritten, because, Why, numberIn}
-use Rattle.words.specs.Laying.{Lays}
+use Rattle.words.specs.Lays.{Lays}
 use Rattle.words.specs.declared.Refusal.{Refusal}
 use Rattle.words.specs.declared.Written.{Written}
 use Rattle.words.specs.declared.Written.the-variants as W

@@ -1,4 +1,4 @@
 pub mod Refusal
 pub mod Answer
-pub mod Laying
+pub mod Lays
 pub mod Promise

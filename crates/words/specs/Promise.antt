@@ -6,7 +6,7 @@ use Prim.Native.Nat.{ℕ}
 use mathlib.Core.Bool.{Bool}
 use mathlib.Core.Path.{_≡_}
 use Rattle.words.specs.Refusal.{numberOf}
-use Rattle.words.specs.Laying.{fits}
+use Rattle.words.specs.Lays.{fits}
 use Rattle.words.specs.declared.Refusal.{Refusal}
 
 pub record Numbered (r : Refusal) (n : ℕ) : Type 0 where

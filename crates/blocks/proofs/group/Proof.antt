@@ -1,7 +1,7 @@
 -- `blocks::group` keeps what it promises inside the crate.
 use mathlib.Core.Path.{ap}
 use Rattle.blocks.specs.Inner.{meansReading}
-use Rattle.blocks.proofs.Says.{said-number, said-gap}
+use Rattle.blocks.proofs.GroupReading.{said-number, said-gap}
 use borrow.Author.Needs.{needs}
 use Rattle.blocks.proofs.group.Statement.{statement}
 use Rattle.blocks.proofs.group.Tie as tie

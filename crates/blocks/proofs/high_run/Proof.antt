@@ -2,7 +2,7 @@
 use Prim.Native.Nat.{_-_}
 use lib.ListN.{length}
 use borrow.Author.Needs.{needs}
-use Rattle.blocks.proofs.Runs.{Passing, none-passed, one-passed, low-found, end-found}
+use Rattle.blocks.proofs.HighRun.{Passing, none-passed, one-passed, low-found, end-found}
 use Rattle.blocks.proofs.high_run.Statement.{statement}
 use Rattle.blocks.proofs.high_run.Tie as tie
 

@@ -1,17 +1,17 @@
 -- `blocks::is_start` keeps what it promises inside the crate.
-use Rattle.blocks.proofs.Runs.{front-starts, start-behind}
+use Rattle.blocks.proofs.HighRun.{front-is-start, low-is-start}
 use borrow.Author.Needs.{needs}
 use Rattle.blocks.proofs.is_start.Statement.{statement}
 use Rattle.blocks.proofs.is_start.Tie as tie
 
 returns : tie.Need-returns
-returns c = front-starts _ _ (c .if1 .taken)
+returns c = front-is-start _ _ (c .if1 .taken)
 
 shared-slice-read-b : tie.Need-shared-slice-read-b
 shared-slice-read-b c = search needs
 
 returns-2 : tie.Need-returns-2
-returns-2 c = start-behind _ _ (c .before .if1 .left)
+returns-2 c = low-is-start _ _ (c .before .if1 .left)
 
 pub is-start-spec : {M : Type 1} → statement M
 is-start-spec = tie.close (tie.spec returns shared-slice-read-b returns-2)

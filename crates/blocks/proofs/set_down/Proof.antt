@@ -2,7 +2,7 @@
 use Prim.Native.Nat.{_+_, _-_}
 use mathlib.Core.Path.{refl, ap, _∙_}
 use native.Mathlib.Omega.{arith}
-use Rattle.blocks.proofs.Runs.{within}
+use Rattle.blocks.proofs.HighRun.{within}
 use Rattle.blocks.proofs.Rows.{set-too-long, set-past, set-front, set-found, set-none}
 use borrow.Author.Needs.{needs}
 use Rattle.blocks.proofs.set_down.Statement.{statement}

@@ -1,8 +1,8 @@
 -- `blocks::signed_reading` keeps what it promises inside the crate.
 use Rattle.sleb128.specs.Promise.{meansReadI64}
-use Rattle.sleb128.proofs.Bits.{back}
+use Rattle.sleb128.proofs.Bits.{word-back}
 use Rattle.blocks.specs.Block.{signed}
-use Rattle.blocks.proofs.Says.{told}
+use Rattle.blocks.proofs.GroupReading.{valued-as}
 use borrow.Author.Needs.{needs}
 use Rattle.blocks.proofs.signed_reading.Statement.{statement}
 use Rattle.blocks.proofs.signed_reading.Tie as tie
@@ -17,10 +17,10 @@ enum-known-refusal : tie.Need-enum-known-refusal
 enum-known-refusal c = search needs
 
 returns : tie.Need-returns
-returns c = record { is = rw (back _ (c .known-told .given .0 .1)) (told meansReadI64 signed (c .before .before .before .read-i64 .ensures .is) (c .before .v .given .1)) }
+returns c = record { is = rw (word-back _ (c .known-told .given .0 .1)) (valued-as meansReadI64 signed (c .before .before .before .read-i64 .ensures .is) (c .before .v .given .1)) }
 
 returns-2 : tie.Need-returns-2
-returns-2 c = record { is = told meansReadI64 signed (c .before .before .before .read-i64 .ensures .is) (c .before .refusal .given .1) }
+returns-2 c = record { is = valued-as meansReadI64 signed (c .before .before .before .read-i64 .ensures .is) (c .before .refusal .given .1) }
 
 pub signed-reading-spec : {M : Type 1} → statement M
 signed-reading-spec =

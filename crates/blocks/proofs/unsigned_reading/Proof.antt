@@ -1,7 +1,7 @@
 -- `blocks::unsigned_reading` keeps what it promises inside the crate.
 use Rattle.uleb128.specs.Promise.{meansReadU64}
 use Rattle.blocks.specs.Block.{unsigned}
-use Rattle.blocks.proofs.Says.{told}
+use Rattle.blocks.proofs.GroupReading.{valued-as}
 use borrow.Author.Needs.{needs}
 use Rattle.blocks.proofs.unsigned_reading.Statement.{statement}
 use Rattle.blocks.proofs.unsigned_reading.Tie as tie
@@ -16,10 +16,10 @@ enum-known-refusal : tie.Need-enum-known-refusal
 enum-known-refusal c = search needs
 
 returns : tie.Need-returns
-returns c = record { is = told meansReadU64 unsigned (c .before .before .before .read-u64 .ensures .is) (c .before .v .given .1) }
+returns c = record { is = valued-as meansReadU64 unsigned (c .before .before .before .read-u64 .ensures .is) (c .before .v .given .1) }
 
 returns-2 : tie.Need-returns-2
-returns-2 c = record { is = told meansReadU64 unsigned (c .before .before .before .read-u64 .ensures .is) (c .before .refusal .given .1) }
+returns-2 c = record { is = valued-as meansReadU64 unsigned (c .before .before .before .read-u64 .ensures .is) (c .before .refusal .given .1) }
 
 pub unsigned-reading-spec : {M : Type 1} → statement M
 unsigned-reading-spec =

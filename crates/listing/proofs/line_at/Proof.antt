@@ -7,7 +7,7 @@ use Rattle.words.specs.Answer.{because}
 use Rattle.blocks.specs.Promise.{meansStep}
 use Rattle.blocks.specs.declared.Step.{Step}
 use Rattle.listing.specs.Listing.{at, lineOf, next}
-use Rattle.listing.proofs.Lines.{comes, none, refused, row-fits, fault-short}
+use Rattle.listing.proofs.Lines.{row-fits, fault-short, line-comes, line-none, line-refused}
 use Rattle.listing.proofs.line_at.Statement.{statement}
 use Rattle.listing.proofs.line_at.Tie as tie
 
@@ -70,14 +70,14 @@ returns c =
     let numbered = c .before .before .before .before .before in
     let valued = numbered .before .before .before .before in
     let s = valued .before .before in
-    comes (start s .pre) (rw (numbered .before .value2 .given .1) at (said s (valued .value .given .1)))
+    line-comes (start s .pre) (rw (numbered .before .value2 .given .1) at (said s (valued .value .given .1)))
     (row-fits _ _ _ (place-fits s) (search needs) (omega arith)) (c .before .before .row .ensures)
 
 returns-2 : tie.Need-returns-2
 returns-2 c =
     let valued = c .before .before .before in
     let s = valued .before .before in
-    none (start s .pre) (rw (c .enum-told .given .1) at (said s (valued .value .given .1)))
+    line-none (start s .pre) (rw (c .enum-told .given .1) at (said s (valued .value .given .1)))
 
 same-length-2 : tie.Need-same-length-2
 same-length-2 c = search needs
@@ -86,7 +86,7 @@ returns-3 : tie.Need-returns-3
 returns-3 c =
     let told = c .before .before .before .before in
     let s = told .before .before .before in
-    comes (start s .pre) (said s (told .before .refusal .given .1))
+    line-comes (start s .pre) (said s (told .before .refusal .given .1))
     (row-fits _ _ _ (place-fits s) (told .known-told3 .given .1 .0 .1 .1 .0 .1) (fault-short (because (told .before .refusal .given .0 .0)))) (c .before .before .gap-row .ensures)
 
 same-length-3 : tie.Need-same-length-3
@@ -96,18 +96,18 @@ returns-4 : tie.Need-returns-4
 returns-4 c =
     let told = c .before .before .before .before .before in
     let s = told .before .before .before in
-    comes (start s .pre) (said s (told .before .count .given .1))
+    line-comes (start s .pre) (said s (told .before .count .given .1))
     (row-fits _ _ _ (place-fits s) (told .known-told4 .given .0 .1 .1 .0 .1) (omega arith)) (c .before .before .row2 .ensures)
 
 returns-5 : tie.Need-returns-5
 returns-5 c =
     let s = c .before .before in
-    none (start s .pre) (said s (c .enum-told2 .given .1))
+    line-none (start s .pre) (said s (c .enum-told2 .given .1))
 
 returns-6 : tie.Need-returns-6
 returns-6 c =
     let s = c .before .before .before in
-    refused (start s .pre) (said s (c .before .refusal2 .given .1))
+    line-refused (start s .pre) (said s (c .before .refusal2 .given .1))
 
 pub line-at-spec : {M : Type 1} → statement M
 line-at-spec =

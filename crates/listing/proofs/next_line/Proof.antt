@@ -2,13 +2,13 @@
 use native.Mathlib.Omega.{arith}
 use borrow.Author.Needs.{needs}
 use borrow.Author.Tests.{lt-ltb, le-ltb}
-use Rattle.blocks.specs.Block.{block-limit}
-use Rattle.listing.proofs.Lines.{comes, none, no-room}
+use Rattle.blocks.specs.Block.{blockLimit}
+use Rattle.listing.proofs.Lines.{line-comes, line-none, line-no-room}
 use Rattle.listing.proofs.next_line.Statement.{statement}
 use Rattle.listing.proofs.next_line.Tie as tie
 
 returns : tie.Need-returns
-returns c = no-room (c .if1 .taken)
+returns c = line-no-room (c .if1 .taken)
 
 enum-told : tie.Need-enum-told
 enum-told c = search needs
@@ -26,7 +26,7 @@ returns-2 : tie.Need-returns-2
 returns-2 c =
     let long = c .before .before .before .before .before in
     let top = long .before in
-    comes (top .before .before .if1 .left) (rw (top .enum-told .given .1, lt-ltb block-limit _ (long .if2 .taken))) (omega arith) (c .before .before .word .ensures)
+    line-comes (top .before .before .if1 .left) (rw (top .enum-told .given .1, lt-ltb blockLimit _ (long .if2 .taken))) (omega arith) (c .before .before .word .ensures)
 
 slice-aggregate-word-2 : tie.Need-slice-aggregate-word-2
 slice-aggregate-word-2 c = search needs
@@ -50,7 +50,7 @@ returns-3 : tie.Need-returns-3
 returns-3 c =
     let short = c .before .before .before .before .before in
     let top = short .before in
-    comes (top .before .before .if1 .left) (rw (top .enum-told .given .1, le-ltb block-limit _ (short .if2 .left))) (omega arith) (c .before .before .word2 .ensures)
+    line-comes (top .before .before .if1 .left) (rw (top .enum-told .given .1, le-ltb blockLimit _ (short .if2 .left))) (omega arith) (c .before .before .word2 .ensures)
 
 same-length-3 : tie.Need-same-length-3
 same-length-3 c = search needs
@@ -59,7 +59,7 @@ returns-4 : tie.Need-returns-4
 returns-4 c = rw (c .before .before .before .before .before .listing .given .1) (c .before .before .line-at .ensures)
 
 returns-5 : tie.Need-returns-5
-returns-5 c = none (c .before .before .if1 .left) (rw (c .enum-told2 .given .1))
+returns-5 c = line-none (c .before .before .if1 .left) (rw (c .enum-told2 .given .1))
 
 pub next-line-spec : {M : Type 1} → statement M
 next-line-spec =

@@ -1,6 +1,6 @@
 -- `listing::row` keeps what it promises inside the crate: its six parts are laid down one behind the other.
 use borrow.Author.Needs.{needs}
-use Rattle.texts.proofs.Laying.{joined}
+use Rattle.texts.proofs.LaysText.{joined-laid}
 use Rattle.listing.specs.Listing.{row}
 use Rattle.listing.proofs.row.Statement.{statement}
 use Rattle.listing.proofs.row.Tie as tie
@@ -44,8 +44,8 @@ returns c =
     let named = parted .before .before .before .before .before in
     let spaced = named .before .before .before .before in
     let placed = spaced .before .before .before .before .before in
-    joined
-    (joined (joined (joined (joined (placed .decimal .ensures) (spaced .word .ensures)) (named .word2 .ensures)) (parted .word3 .ensures))
+    joined-laid
+    (joined-laid (joined-laid (joined-laid (joined-laid (placed .decimal .ensures) (spaced .word .ensures)) (named .word2 .ensures)) (parted .word3 .ensures))
     (valued .decimal2 .ensures)) (newline .word4 .ensures)
 
 pub row-spec : {M : Type 1} → statement M

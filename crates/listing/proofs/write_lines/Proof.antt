@@ -4,8 +4,8 @@ use lib.ListN.{length}
 use lib.Seq.{length-take-le}
 use borrow.Author.Needs.{needs}
 use Rattle.listing.specs.Promise.{meansListing}
-use Rattle.listing.proofs.Left.{Fine, rank}
-use Rattle.listing.proofs.Taking.{Took, took}
+use Rattle.listing.proofs.TextLeft.{Fine, rank}
+use Rattle.listing.proofs.LineGiven.{LineGiven, line-given}
 use Rattle.listing.proofs.write_lines.Statement.{statement}
 use Rattle.listing.proofs.write_lines.Tie as tie
 
@@ -20,9 +20,9 @@ asked c = c .before .before .before .before .before
 
 -- what the line that was given is
 line-took : (c : tie.After-known-told Inv-loop μ-loop)
-    → Took (asked c .before .before .before .before .before .args .block .now) (meansListing (asked c .before .before .loop .listing))
+    → LineGiven (asked c .before .before .before .before .before .args .block .now) (meansListing (asked c .before .before .loop .listing))
     (c .before .count .given .0 .0 .0) (meansListing (c .before .count .given .0 .1 .0)) (asked c .next-line .last .1 .1 .0)
-line-took c = took (asked c .before .before .loop .inv .1) (asked c .next-line .ensures) (c .before .count .given .1)
+line-took c = line-given (asked c .before .before .loop .inv .1) (asked c .next-line .ensures) (c .before .count .given .1)
 
 loop-holds : tie.Need-loop-holds Inv-loop μ-loop
 loop-holds c = (refl, tt)

@@ -2,24 +2,24 @@
 use Prim.Native.Nat.{_-_}
 use lib.ListN.{length}
 use borrow.Author.Needs.{needs}
-use Rattle.texts.proofs.Laying.{Going, begin, turn, full, whole}
+use Rattle.texts.proofs.LaysText.{TextSoFar, text-begun, one-laid, full-laid, all-laid}
 use Rattle.texts.proofs.word.Statement.{statement}
 use Rattle.texts.proofs.word.Tie as tie
 
 abbrev Inv-loop : tie.InvT-loop
-Inv-loop text buffer₀ at₀ i₀ buffer at i = Going text i buffer₀ at₀ at buffer
+Inv-loop text buffer₀ at₀ i₀ buffer at i = TextSoFar text i buffer₀ at₀ at buffer
 
 abbrev μ-loop : tie.MeasureT-loop
 μ-loop text buffer₀ at₀ i₀ buffer at i = length text - i
 
 loop-holds : tie.Need-loop-holds Inv-loop μ-loop
-loop-holds c = begin
+loop-holds c = text-begun
 
 same-length : tie.Need-same-length Inv-loop μ-loop
 same-length c = search needs
 
 returns : tie.Need-returns Inv-loop μ-loop
-returns c = full (c .before .before .loop .inv) (search needs)
+returns c = full-laid (c .before .before .loop .inv) (search needs)
 
 shared-slice-read-b : tie.Need-shared-slice-read-b Inv-loop μ-loop
 shared-slice-read-b c = search needs
@@ -37,13 +37,13 @@ loop-less : tie.Need-loop-less Inv-loop μ-loop
 loop-less c = search needs
 
 loop-again : tie.Need-loop-again Inv-loop μ-loop
-loop-again c = turn (c .before .before .before .loop .inv) (search needs) (search needs) (search needs)
+loop-again c = one-laid (c .before .before .before .loop .inv) (search needs) (search needs) (search needs)
 
 same-length-2 : tie.Need-same-length-2 Inv-loop μ-loop
 same-length-2 c = search needs
 
 returns-2 : tie.Need-returns-2 Inv-loop μ-loop
-returns-2 c = whole (c .before .loop .inv) (search needs)
+returns-2 c = all-laid (c .before .loop .inv) (search needs)
 
 pub word-spec : {M : Type 1} → statement M
 word-spec =

@@ -1,5 +1,5 @@
--- `words::has_room` meets its promise: a law of `Laying` for each answer.
-use Rattle.words.proofs.Laying.{room-none, room-left}
+-- `words::has_room` meets its promise: a law of `Lays` for each answer.
+use Rattle.words.proofs.Lays.{room-none, room-left}
 use Rattle.words.proofs.has_room.Statement.{statement}
 use Rattle.words.proofs.has_room.Tie as tie
 

@@ -6,8 +6,8 @@ use native.Mathlib.Omega.{arith}
 use borrow.Author.Tests.{not-true, not-false}
 use denote.Ref.{now}
 use Rattle.blocks.specs.Block.{isStart}
-use Rattle.blocks.proofs.Runs.{within}
-use Rattle.blocks.proofs.Says.{read-alone}
+use Rattle.blocks.proofs.HighRun.{within}
+use Rattle.blocks.proofs.GroupReading.{read-alone}
 use Rattle.blocks.proofs.Rows.{step-too-long, step-past, step-finished, step-not-a-start, step-tail, step-group}
 use borrow.Author.Needs.{needs}
 use Rattle.blocks.proofs.Cursor.step.Statement.{statement}

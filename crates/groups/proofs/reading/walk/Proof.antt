@@ -1,14 +1,14 @@
--- `groups::walk` meets its promise: the loop holds `Going`, and each way out of it is a law of `Walking`.
+-- `groups::walk` meets its promise: the loop holds `WalkedSoFar`, and each way out of it is a law of `WalkLoop`.
 use Prim.Native.Nat.{_+_, _*_, _-_, _<_, _^_}
 use lib.ListN.{length}
 use borrow.Author.Needs.{needs}
 use native.Mathlib.Omega.{arith}
-use Rattle.groups.proofs.Walking.{Going, past, starts, closes, overruns, goes-on, runs-dry, part-fits, weight-fits}
+use Rattle.groups.proofs.WalkLoop.{WalkedSoFar, walk-past, none-walked, walk-closes, walk-overruns, one-walked, walk-runs-dry, part-fits, weight-fits}
 use Rattle.groups.proofs.reading.walk.Statement.{statement}
 use Rattle.groups.proofs.reading.walk.Tie as tie
 
 abbrev Inv-loop : tie.InvT-loop
-Inv-loop bytes at place₀ high₀ sum₀ weight₀ place high sum weight = Going bytes at place high sum weight
+Inv-loop bytes at place₀ high₀ sum₀ weight₀ place high sum weight = WalkedSoFar bytes at place high sum weight
 
 abbrev μ-loop : tie.MeasureT-loop
 μ-loop bytes at place₀ high₀ sum₀ weight₀ place high sum weight = length bytes - place
@@ -24,19 +24,19 @@ fits : (c : tie.After-low-bits Inv-loop μ-loop) → head c .loop .sum + head c 
 fits c = part-fits _ _ (head c .loop .inv) (c .low-bits .result) (few c) (omega (arith, c .low-bits .ensures))
 
 returns : tie.Need-returns Inv-loop μ-loop
-returns c = past _ _ (c .if1 .taken)
+returns c = walk-past _ _ (c .if1 .taken)
 
 loop-holds : tie.Need-loop-holds Inv-loop μ-loop
-loop-holds c = starts _ _ (c .if1 .left)
+loop-holds c = none-walked _ _ (c .if1 .left)
 
 shared-slice-read-b : tie.Need-shared-slice-read-b Inv-loop μ-loop
 shared-slice-read-b c = search needs
 
 returns-2 : tie.Need-returns-2 Inv-loop μ-loop
-returns-2 c = closes _ _ (c .before .before .before .loop .inv) (search needs) (c .if2 .taken)
+returns-2 c = walk-closes _ _ (c .before .before .before .loop .inv) (search needs) (c .if2 .taken)
 
 returns-3 : tie.Need-returns-3 Inv-loop μ-loop
-returns-3 c = overruns _ _ (c .before .before .before .before .loop .inv) (search needs) (c .before .if2 .left) (c .if3 .taken)
+returns-3 c = walk-overruns _ _ (c .before .before .before .before .loop .inv) (search needs) (c .before .if2 .left) (c .if3 .taken)
 
 low-bits-requires : tie.Need-low-bits-requires Inv-loop μ-loop
 low-bits-requires c κs = search needs
@@ -62,10 +62,10 @@ loop-less c = search needs
 loop-again : tie.Need-loop-again Inv-loop μ-loop
 loop-again c =
     rw (c .low-bits .ensures)
-    (goes-on _ _ (head c .loop .inv) (search needs) (c .before .before .if2 .left) (few c))
+    (one-walked _ _ (head c .loop .inv) (search needs) (c .before .before .if2 .left) (few c))
 
 returns-4 : tie.Need-returns-4 Inv-loop μ-loop
-returns-4 c = runs-dry _ _ (c .before .loop .inv) (c .loop-test .left)
+returns-4 c = walk-runs-dry _ _ (c .before .loop .inv) (c .loop-test .left)
 
 pub walk-spec : {M : Type 1} → statement M
 walk-spec =

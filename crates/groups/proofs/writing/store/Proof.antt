@@ -1,13 +1,13 @@
--- `groups::store` meets its promise: the loop holds `Stored`, and each way out is a law of `Storing`.
+-- `groups::store` meets its promise: the loop holds `Stored`, and each way out is a law of `StoreLoop`.
 use Prim.Native.Nat.{_-_, _%_}
 use mathlib.Core.Path.{sym}
 use lib.ListN.{length-set}
 use borrow.Author.Needs.{needs}
 use native.Mathlib.Omega.{arith}
 use borrow.Author.Tests.{not-true, not-false}
-use Rattle.words.proofs.Laying.{room-refused, room-there}
+use Rattle.words.proofs.Lays.{room-refused, room-there}
 use Rattle.groups.proofs.Spelling.{length-groups, say-below}
-use Rattle.groups.proofs.Storing.{Stored, none-stored, one-stored, all-stored, none-laid}
+use Rattle.groups.proofs.StoreLoop.{Stored, none-stored, one-stored, all-stored, none-laid}
 use Rattle.groups.proofs.writing.store.Statement.{statement}
 use Rattle.groups.proofs.writing.store.Tie as tie
 

@@ -1,12 +1,12 @@
--- `lists::fill` keeps what it promises inside the crate: the loop holds `Poured`, and each turn is a law of `Filling`.
+-- `lists::fill` keeps what it promises inside the crate: the loop holds `Poured`, and each turn is a law of `FillLoop`.
 use Prim.Native.Nat.{_-_}
 use mathlib.Core.Path.{refl}
 use native.Mathlib.Omega.{arith}
 use borrow.Author.Needs.{needs}
 use lib.ListN.{length}
 use Rattle.lists.specs.Inner.{Behind}
-use Rattle.lists.proofs.Scanning.{start-here}
-use Rattle.lists.proofs.Filling.{Poured, none-poured, one-fits, one-poured, no-fault, all-poured}
+use Rattle.lists.proofs.ScanLoop.{start-here}
+use Rattle.lists.proofs.FillLoop.{Poured, none-poured, one-fits, one-poured, no-fault, all-poured}
 use Rattle.lists.proofs.reading.fill.Statement.{statement}
 use Rattle.lists.proofs.reading.fill.Tie as tie
 

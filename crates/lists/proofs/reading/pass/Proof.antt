@@ -1,11 +1,11 @@
--- `lists::pass` keeps what it promises inside the crate: a law of `Passing` for each case of the step.
+-- `lists::pass` keeps what it promises inside the crate: a law of `NumbersAtStart` for each case of the step.
 use mathlib.Core.Path.{_≡_, ap, sym, _∙_}
 use borrow.Author.Needs.{needs}
 use Rattle.blocks.specs.Block.{stepping}
 use Rattle.blocks.specs.Promise.{meansStep}
 use Rattle.blocks.specs.declared.Rule.the-variants.{Unsigned}
 use Rattle.blocks.specs.declared.Step.{Step}
-use Rattle.lists.proofs.Passing.{pass-possible, pass-number, pass-gap, pass-tail}
+use Rattle.lists.proofs.NumbersAtStart.{pass-possible, pass-number, pass-gap, pass-tail}
 use Rattle.lists.proofs.reading.pass.Statement.{statement}
 use Rattle.lists.proofs.reading.pass.Tie as tie
 

@@ -1,10 +1,10 @@
--- `lists::read_strict` meets its promise: a law of `Answers` for each answer of the first pass; the second pass gives the rest.
+-- `lists::read_strict` meets its promise: a law of `StrictAnswers` for each answer of the first pass; the second pass gives the rest.
 use mathlib.Core.Path.{_≡_, ap, sym, _∙_}
 use borrow.Author.Needs.{needs}
 use Rattle.lists.specs.Inner.{many, meansScanned}
 use Rattle.lists.specs.Strict.{numbers}
 use Rattle.lists.specs.declared.reading.Scanned.{Scanned}
-use Rattle.lists.proofs.Answers.{block-too-long, block-faulty, list-full, list-fits}
+use Rattle.lists.proofs.StrictAnswers.{block-too-long, block-faulty, list-full, list-fits}
 use Rattle.lists.proofs.reading.read_strict.Statement.{statement}
 use Rattle.lists.proofs.reading.read_strict.Tie as tie
 

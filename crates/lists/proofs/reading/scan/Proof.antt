@@ -1,10 +1,10 @@
--- `lists::scan` keeps what it promises inside the crate: the loop holds `Counted`, and each turn is a law of `Scanning`.
+-- `lists::scan` keeps what it promises inside the crate: the loop holds `Counted`, and each turn is a law of `ScanLoop`.
 use Prim.Native.Nat.{_-_}
 use native.Mathlib.Omega.{arith}
 use borrow.Author.Needs.{needs}
 use lib.ListN.{length}
 use Rattle.lists.specs.Inner.{Behind}
-use Rattle.lists.proofs.Scanning.{Counted, none-counted, start-here, one-counted, fault-found, all-counted}
+use Rattle.lists.proofs.ScanLoop.{Counted, none-counted, start-here, one-counted, fault-found, all-counted}
 use Rattle.lists.proofs.reading.scan.Statement.{statement}
 use Rattle.lists.proofs.reading.scan.Tie as tie
 

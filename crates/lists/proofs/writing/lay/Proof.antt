@@ -1,12 +1,12 @@
--- `lists::lay` keeps what it promises inside the crate: the loop holds `LaidSoFar`, and each turn is a law of `Layings`.
+-- `lists::lay` keeps what it promises inside the crate: the loop holds `LaidSoFar`, and each turn is a law of `LayLoop`.
 use Prim.Native.Nat.{_+_, _-_, _≤_}
 use mathlib.Core.Path.{refl}
 use native.Mathlib.Omega.{arith}
 use borrow.Author.Needs.{needs}
 use lib.ListN.{length, getD}
 use Rattle.uleb128.specs.Unsigned.{form}
-use Rattle.lists.proofs.Layings.{LaidSoFar, none-laid, room-next, one-laid, all-laid}
-use Rattle.words.proofs.Laying.{laid-there, laid-count, never-refused}
+use Rattle.lists.proofs.LayLoop.{LaidSoFar, none-laid, room-next, one-laid, all-laid}
+use Rattle.words.proofs.Lays.{laid-there, laid-count, never-refused}
 use Rattle.lists.proofs.writing.lay.Statement.{statement}
 use Rattle.lists.proofs.writing.lay.Tie as tie
 

@@ -1,9 +1,9 @@
--- `lists::total_length` keeps what it promises inside the crate: the loop holds `Adding`, and each turn is a law of `Totals`.
+-- `lists::total_length` keeps what it promises inside the crate: the loop holds `Adding`, and each turn is a law of `TotalLoop`.
 use Prim.Native.Nat.{_+_, _-_}
 use native.Mathlib.Omega.{arith}
 use borrow.Author.Needs.{needs}
 use lib.ListN.{length}
-use Rattle.lists.proofs.Totals.{Adding, none-added, one-added, all-added}
+use Rattle.lists.proofs.TotalLoop.{Adding, none-added, one-added, all-added}
 use Rattle.lists.proofs.writing.total_length.Statement.{statement}
 use Rattle.lists.proofs.writing.total_length.Tie as tie
 

@@ -1,9 +1,9 @@
--- `lists::write_list` meets its promise: a law of `Layings` for each answer.
+-- `lists::write_list` meets its promise: a law of `LayLoop` for each answer.
 use native.Mathlib.Omega.{arith}
 use borrow.Author.Needs.{needs}
 use borrow.Author.Tests.{not-true, not-false}
-use Rattle.words.proofs.Laying.{room-refused, room-there}
-use Rattle.lists.proofs.Layings.{list-too-long, list-laid}
+use Rattle.words.proofs.Lays.{room-refused, room-there}
+use Rattle.lists.proofs.LayLoop.{list-too-long, list-laid}
 use Rattle.lists.proofs.writing.write_list.Statement.{statement}
 use Rattle.lists.proofs.writing.write_list.Tie as tie
 

@@ -1,10 +1,10 @@
--- `sleb128::closed` keeps what it promises inside the crate: a law of `Closings` for each answer.
+-- `sleb128::closed` keeps what it promises inside the crate: a law of `ClosingRows` for each answer.
 use Prim.Native.Nat.{_+_, _*_, _^_, _<_}
 use native.Mathlib.Omega.{arith}
 use borrow.Author.Needs.{needs}
-use Rattle.groups.proofs.Rows.{keeps}
-use Rattle.sleb128.proofs.Bits.{back}
-use Rattle.sleb128.proofs.Closings.{closing-large, closing-number, closing-one, closing-many, closing-last, closing-fits, low-fits}
+use Rattle.groups.proofs.Rows.{due-kept}
+use Rattle.sleb128.proofs.Bits.{word-back}
+use Rattle.sleb128.proofs.ClosingRows.{closing-large, closing-number, closing-one, closing-many, closing-last, closing-fits, low-fits}
 use Rattle.sleb128.proofs.reading.closed.Statement.{statement}
 use Rattle.sleb128.proofs.reading.closed.Tie as tie
 
@@ -19,7 +19,7 @@ add-n : tie.Need-add-n
 add-n c = search needs
 
 returns : tie.Need-returns
-returns c = keeps (closing-large _ _ _ _ _ (c .before .if1 .taken) (c .if2 .taken))
+returns c = due-kept (closing-large _ _ _ _ _ (c .before .if1 .taken) (c .if2 .taken))
 
 mul-part : tie.Need-mul-part
 mul-part c = omega (arith, whole c)
@@ -31,25 +31,25 @@ signed-requires : tie.Need-signed-requires
 signed-requires c κs = whole c
 
 returns-2 : tie.Need-returns-2
-returns-2 c = rw (back _ (c .signed .ok), c .signed .ensures) (keeps (closing-number _ _ _ _ _ (c .before .before .if1 .taken) (c .before .if2 .left)))
+returns-2 c = rw (word-back _ (c .signed .ok), c .signed .ensures) (due-kept (closing-number _ _ _ _ _ (c .before .before .if1 .taken) (c .before .if2 .left)))
 
 signed-requires-2 : tie.Need-signed-requires-2
 signed-requires-2 c κs = low (c .before .before)
 
 returns-3 : tie.Need-returns-3
-returns-3 c = rw (back _ (c .signed2 .ok), c .signed2 .ensures) (keeps (closing-one _ _ _ _ _ (omega arith) (c .before .if3 .taken)))
+returns-3 c = rw (word-back _ (c .signed2 .ok), c .signed2 .ensures) (due-kept (closing-one _ _ _ _ _ (omega arith) (c .before .if3 .taken)))
 
 mul-twice : tie.Need-mul-twice
 mul-twice c = omega (arith, low (c .before .before))
 
 returns-4 : tie.Need-returns-4
-returns-4 c = keeps (closing-many _ _ _ _ _ (omega arith) (c .before .if3 .left) (c .if4 .taken))
+returns-4 c = due-kept (closing-many _ _ _ _ _ (omega arith) (c .before .if3 .left) (c .if4 .taken))
 
 signed-requires-3 : tie.Need-signed-requires-3
 signed-requires-3 c κs = low (c .before .before .before)
 
 returns-5 : tie.Need-returns-5
-returns-5 c = rw (back _ (c .signed3 .ok), c .signed3 .ensures) (keeps (closing-last _ _ _ _ _ (omega arith) (c .before .before .if3 .left) (c .before .if4 .left)))
+returns-5 c = rw (word-back _ (c .signed3 .ok), c .signed3 .ensures) (due-kept (closing-last _ _ _ _ _ (omega arith) (c .before .before .if3 .left) (c .before .if4 .left)))
 
 pub closed-spec : {M : Type 1} → statement M
 closed-spec =

@@ -1,12 +1,12 @@
--- `sleb128::read_i64` meets its promise: what the walk told is a law over the width, and of a group that closes a law of `ClosedGroups`.
+-- `sleb128::read_i64` meets its promise: what the walk tells is a law over the width, and of a group that closes a law of `SignedGroups`.
 use native.Mathlib.Omega.{arith}
 use borrow.Author.Needs.{needs}
 use denote.Ref.{now}
-use Rattle.groups.proofs.Rows.{read-past, keeps, passes}
-use Rattle.groups.proofs.Walks.{told, Closing, closed-below, open-short, overrun}
+use Rattle.groups.proofs.Rows.{read-past, due-kept, due-passed}
+use Rattle.groups.proofs.FromWalk.{walk-tells, Closing, closed-below, open-short, overrun}
 use Rattle.sleb128.specs.Signed.{i64}
 use Rattle.sleb128.proofs.Widths.{sound}
-use Rattle.sleb128.proofs.ClosedGroups.{closes-above, closes-below, reads-above, reads-below}
+use Rattle.sleb128.proofs.SignedGroups.{closes-above, closes-below, reads-above, reads-below}
 use Rattle.sleb128.proofs.reading.read_i64.Statement.{statement}
 use Rattle.sleb128.proofs.reading.read_i64.Tie as tie
 
@@ -17,7 +17,7 @@ start c = c .before .before .before .before
 closing : (c : tie.After-sum)
     → Closing (now (start c .args .bytes)) (start c .args .start .0) (c .sum .given .0 .0) (c .sum .given .0 .1 .0)
     (c .sum .given .0 .1 .1 .0) (c .sum .given .0 .1 .1 .1 .0)
-closing c = told _ _ (c .before .before .walk .ensures) (c .sum .given .1)
+closing c = walk-tells _ _ (c .before .before .walk .ensures) (c .sum .given .1)
 
 walk-requires : tie.Need-walk-requires
 walk-requires c κs = search needs
@@ -38,7 +38,7 @@ closed-requires : tie.Need-closed-requires
 closed-requires c κs = closes-above (closing (c .before .before)) (c .if1 .taken)
 
 returns : tie.Need-returns
-returns c = passes (reads-above (closing (c .before .before .before)) (c .before .if1 .taken)) (c .closed .ensures)
+returns c = due-passed (reads-above (closing (c .before .before .before)) (c .before .if1 .taken)) (c .closed .ensures)
 
 sub-up : tie.Need-sub-up
 sub-up c = omega (arith, closed-below (closing (c .before .before)))
@@ -53,20 +53,20 @@ closed-requires-2 : tie.Need-closed-requires-2
 closed-requires-2 c κs = closes-below (closing (c .before .before)) (c .if1 .left)
 
 returns-2 : tie.Need-returns-2
-returns-2 c = keeps (read-past i64 _ _ (told _ _ (c .before .before .walk .ensures) (c .enum-told .given .1)))
+returns-2 c = due-kept (read-past i64 _ _ (walk-tells _ _ (c .before .before .walk .ensures) (c .enum-told .given .1)))
 
 returns-3 : tie.Need-returns-3
 returns-3 c =
-    let q = told _ _ (c .before .before .walk .ensures) (c .enum-told2 .given .1) in
-    keeps (open-short i64 sound _ _ q (q .few))
+    let q = walk-tells _ _ (c .before .before .walk .ensures) (c .enum-told2 .given .1) in
+    due-kept (open-short i64 sound _ _ q (q .few))
 
 returns-4 : tie.Need-returns-4
 returns-4 c =
-    let q = told _ _ (c .before .before .walk .ensures) (c .enum-told3 .given .1) in
-    keeps (overrun i64 sound _ _ (q .here) (q .many))
+    let q = walk-tells _ _ (c .before .before .walk .ensures) (c .enum-told3 .given .1) in
+    due-kept (overrun i64 sound _ _ (q .here) (q .many))
 
 returns-5 : tie.Need-returns-5
-returns-5 c = passes (reads-below (closing (c .before .before .before)) (c .before .if1 .left)) (c .closed2 .ensures)
+returns-5 c = due-passed (reads-below (closing (c .before .before .before)) (c .before .if1 .left)) (c .closed2 .ensures)
 
 pub read-i64-spec : {M : Type 1} → statement M
 read-i64-spec =

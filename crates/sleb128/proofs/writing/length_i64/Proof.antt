@@ -5,7 +5,7 @@ use native.Mathlib.Omega.{arith}
 use lib.ListN.{length}
 use lib.Signed.{mag}
 use Rattle.uleb128.specs.Unsigned.{form as unsigned-form}
-use Rattle.sleb128.proofs.Bits.{back}
+use Rattle.sleb128.proofs.Bits.{word-back}
 use Rattle.sleb128.proofs.Forms.{form-length}
 use borrow.Author.Needs.{needs}
 use Rattle.sleb128.proofs.writing.length_i64.Statement.{statement}
@@ -15,14 +15,14 @@ magnitude-requires : tie.Need-magnitude-requires
 magnitude-requires c κs = search needs
 
 mul-twice : tie.Need-mul-twice
-mul-twice c = omega (arith, c .magnitude .ensures ∙ ap mag (back (c .before .args .v) (c .before .fits .v .sfits)), c .before .fits .v .sfits)
+mul-twice c = omega (arith, c .magnitude .ensures ∙ ap mag (word-back (c .before .args .v) (c .before .fits .v .sfits)), c .before .fits .v .sfits)
 
 length-u64-requires : tie.Need-length-u64-requires
 length-u64-requires c κs = search needs
 
 returns : tie.Need-returns
 returns c =
-    let m = c .before .magnitude .ensures ∙ ap mag (back (c .before .before .args .v) (c .before .before .fits .v .sfits)) in
+    let m = c .before .magnitude .ensures ∙ ap mag (word-back (c .before .before .args .v) (c .before .before .fits .v .sfits)) in
     record { is = c .length-u64 .ensures .is ∙ ap (λ (x : ℕ). length (unsigned-form (x * 2))) m ∙ sym (form-length _) }
 
 pub length-i64-spec : {M : Type 1} → statement M

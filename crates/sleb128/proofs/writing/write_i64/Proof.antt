@@ -4,7 +4,7 @@ use lib.IntN.{ℤ}
 use lib.ListN.{length}
 use lib.Signed.{mag}
 use Rattle.sleb128.specs.Signed.{below, form}
-use Rattle.sleb128.proofs.Bits.{back}
+use Rattle.sleb128.proofs.Bits.{word-back}
 use Rattle.sleb128.proofs.Forms.{form-laid}
 use borrow.Author.Needs.{needs}
 use Rattle.sleb128.proofs.writing.write_i64.Statement.{statement}
@@ -28,7 +28,7 @@ same-length c = search needs
 returns : tie.Need-returns
 returns c =
     let start = c .before .before .before .before .before .before .before .before in
-    let b = back (start .args .v) (start .fits .v .sfits) in
+    let b = word-back (start .args .v) (start .fits .v .sfits) in
     form-laid _ (c .before .before .before .before .before .below-zero .ensures ∙ ap below b)
     (c .before .before .before .before .before .before .magnitude .ensures ∙ ap mag b)
     (c .before .before .before .before .length-i64 .ensures .is ∙ ap (λ (x : ℤ). length (form x)) b) (c .before .before .store .ensures)

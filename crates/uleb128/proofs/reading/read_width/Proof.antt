@@ -1,11 +1,11 @@
--- `uleb128::read_width` keeps what it promises inside the crate: at each answer, what the walk told and the tests on the way
+-- `uleb128::read_width` keeps what it promises inside the crate: at each answer, what the walk tells and the tests on the way
 -- are a law of `Widths`.
 use Prim.Native.Nat.{_+_, _*_, _^_, _<_, _≤_}
 use mathlib.Core.Path.{_≡_}
 use native.Mathlib.Omega.{arith}
 use borrow.Author.Needs.{needs}
 use denote.Ref.{now}
-use Rattle.groups.proofs.Walks.{told, Closing}
+use Rattle.groups.proofs.FromWalk.{walk-tells, Closing}
 use Rattle.uleb128.proofs.Widths.{says-past, says-end, says-overrun, says-large, says-many, says-number, number-fits}
 use Rattle.uleb128.proofs.reading.read_width.Statement.{statement}
 use Rattle.uleb128.proofs.reading.read_width.Tie as tie
@@ -17,7 +17,7 @@ start c = c .before .before .before .before
 closing : (c : tie.After-sum)
     → Closing (now (start c .args .bytes)) (start c .args .start .0) (c .sum .given .0 .0) (c .sum .given .0 .1 .0)
     (c .sum .given .0 .1 .1 .0) (c .sum .given .0 .1 .1 .1 .0)
-closing c = told _ _ (c .before .before .walk .ensures) (c .sum .given .1)
+closing c = walk-tells _ _ (c .before .before .walk .ensures) (c .sum .given .1)
 
 fits : (c : tie.After-sum) → c .sum .given .0 .1 .1 .0 < start c .args .most
     → (c .sum .given .0 .1 .1 .0 + 1 ≡ start c .args .most → c .sum .given .0 .1 .1 .1 .0 ≤ start c .args .top)
@@ -36,7 +36,7 @@ enum-known-high c = search needs
 returns : tie.Need-returns
 returns c =
     says-end _ _ (search needs) _ _
-    (told _ _ (c .before .before .before .before .walk .ensures) (c .before .before .high .given .1)) (c .if1 .taken)
+    (walk-tells _ _ (c .before .before .before .before .walk .ensures) (c .before .before .high .given .1)) (c .if1 .taken)
 
 enum-told-2 : tie.Need-enum-told-2
 enum-told-2 c = search needs
@@ -83,16 +83,16 @@ number-requires-3 c κs =
     fits (c .before .before .before .before .before .before) (search needs) (λ e. c .if6 .left)
 
 returns-7 : tie.Need-returns-7
-returns-7 c = says-past _ _ (search needs) _ _ (told _ _ (c .before .before .walk .ensures) (c .enum-told .given .1))
+returns-7 c = says-past _ _ (search needs) _ _ (walk-tells _ _ (c .before .before .walk .ensures) (c .enum-told .given .1))
 
 returns-8 : tie.Need-returns-8
 returns-8 c =
-    let q = told _ _ (c .before .before .before .before .walk .ensures) (c .before .before .high .given .1) in
+    let q = walk-tells _ _ (c .before .before .before .before .walk .ensures) (c .before .before .high .given .1) in
     says-overrun _ _ (search needs) _ _ (q .here) (omega (arith, q .many))
 
 returns-9 : tie.Need-returns-9
 returns-9 c =
-    let q = told _ _ (c .before .before .walk .ensures) (c .enum-told2 .given .1) in
+    let q = walk-tells _ _ (c .before .before .walk .ensures) (c .enum-told2 .given .1) in
     says-overrun _ _ (search needs) _ _ (q .here) (omega (arith, q .many))
 
 returns-10 : tie.Need-returns-10

@@ -1,12 +1,12 @@
 -- `uleb128_rec::read_rest` keeps what it promises inside the crate. The measure is the bytes still allowed; each answer is a law
--- of `Steps`.
+-- of `ByteInFront`.
 use Prim.Native.Nat.{ℕ, _<_}
 use native.Mathlib.Omega.{arith}
 use borrow.Author.Needs.{needs}
 use borrow.Fn.Kinds.{In}
 use borrow.Fn.PlainCycle.{Measures, is, falls, and}
-use Rattle.groups.proofs.Rows.{passes}
-use Rattle.uleb128_rec.proofs.Steps.{rest-end, rest-last, rest-large, rest-overrun, rest-ahead, joins}
+use Rattle.groups.proofs.Rows.{due-passed}
+use Rattle.uleb128_rec.proofs.ByteInFront.{rest-end, rest-last, rest-large, rest-overrun, rest-ahead, reads-joins}
 use Rattle.uleb128_rec.proofs.reading.read_rest.Reads as read-rest
 use Rattle.uleb128_rec.proofs.reading.read_rest.Kinds as read-rest-kinds
 use Rattle.uleb128_rec.proofs.reading.+read_rest.Lts-read_rest as lts
@@ -56,12 +56,12 @@ module _ (t : ℕ) where
 
   behind-requires : lts.Need-behind-requires (env t) (given t) read-rest.Post
   behind-requires c κs =
-      joins _ _ _ _ (search needs) (search needs)
+      reads-joins _ _ _ _ (search needs) (search needs)
       (λ i. c .before .before .before .before .before .shared-slice-known .given i .fits) (c .read-rest .ensures .is)
 
   returns-6 : lts.Need-returns-6 (env t) (given t) read-rest.Post
   returns-6 c =
-      passes
+      due-passed
       (rest-ahead _ (search needs) _ _ (search needs) (c .before .before .before .if2 .left) (search needs) (c .before .read-rest .ensures .is))
       (c .behind .ensures)
 

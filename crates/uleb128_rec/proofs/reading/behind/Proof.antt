@@ -1,8 +1,8 @@
--- `uleb128_rec::behind` keeps what it promises inside the crate: a law of `Steps` for each case of what was read.
+-- `uleb128_rec::behind` keeps what it promises inside the crate: a law of `ByteInFront` for each case of what was read.
 use native.Mathlib.Omega.{arith}
 use borrow.Author.Needs.{needs}
-use Rattle.groups.proofs.Rows.{keeps}
-use Rattle.uleb128_rec.proofs.Steps.{room, ahead-zero, ahead-number, ahead-case}
+use Rattle.groups.proofs.Rows.{due-kept}
+use Rattle.uleb128_rec.proofs.ByteInFront.{joins-room, ahead-zero, ahead-number, ahead-case}
 use Rattle.uleb128_rec.proofs.reading.behind.Statement.{statement}
 use Rattle.uleb128_rec.proofs.reading.behind.Tie as tie
 
@@ -10,28 +10,28 @@ enum-known-read : tie.Need-enum-known-read
 enum-known-read c = search needs
 
 returns : tie.Need-returns
-returns c = keeps (ahead-zero _ (c .before .before .read .given .1) (c .if1 .taken))
+returns c = due-kept (ahead-zero _ (c .before .before .read .given .1) (c .if1 .taken))
 
 cast-low : tie.Need-cast-low
 cast-low c = search needs
 
 mul-up : tie.Need-mul-up
-mul-up c = omega (arith, room (c .before .before .before .before .args .b) (c .before .before .read .given .1) (c .before .before .before .before .pre))
+mul-up c = omega (arith, joins-room (c .before .before .before .before .args .b) (c .before .before .read .given .1) (c .before .before .before .before .pre))
 
 add-whole : tie.Need-add-whole
-add-whole c = omega (arith, room (c .before .before .before .before .args .b) (c .before .before .read .given .1) (c .before .before .before .before .pre))
+add-whole c = omega (arith, joins-room (c .before .before .before .before .args .b) (c .before .before .read .given .1) (c .before .before .before .before .pre))
 
 add-n : tie.Need-add-n
-add-n c = omega (arith, room (c .before .before .before .before .args .b) (c .before .before .read .given .1) (c .before .before .before .before .pre))
+add-n c = omega (arith, joins-room (c .before .before .before .before .args .b) (c .before .before .read .given .1) (c .before .before .before .before .pre))
 
 enum-known-read-2 : tie.Need-enum-known-read-2
 enum-known-read-2 c = search needs
 
 returns-2 : tie.Need-returns-2
-returns-2 c = keeps (ahead-number _ (c .before .before .read .given .1) (c .if1 .left))
+returns-2 c = due-kept (ahead-number _ (c .before .before .read .given .1) (c .if1 .left))
 
 returns-3 : tie.Need-returns-3
-returns-3 c = keeps (ahead-case _ (c .before .read2 .given .1))
+returns-3 c = due-kept (ahead-case _ (c .before .read2 .given .1))
 
 pub behind-spec : {M : Type 1} → statement M
 behind-spec =

@@ -1,12 +1,12 @@
 -- `uleb128_rec::write_rest` keeps what it promises inside the crate. The measure is the bytes still allowed; each answer is a law
--- of `Stores`.
+-- of `BytesStored`.
 use Prim.Native.Nat.{ℕ, _<_}
 use native.Mathlib.Omega.{arith}
 use borrow.Author.Needs.{needs}
 use borrow.Fn.Kinds.{In}
 use borrow.Fn.PlainCycle.{Measures, is, falls, and}
 use lib.ListN.{length-set}
-use Rattle.uleb128_rec.proofs.Stores.{last-stored, front-stored, fits-one, fits-rest, fits-some, fits-count}
+use Rattle.uleb128_rec.proofs.BytesStored.{last-stored, front-stored, fits-one, fits-rest, fits-some, fits-count}
 use Rattle.uleb128_rec.proofs.writing.write_rest.Reads as write-rest
 use Rattle.uleb128_rec.proofs.writing.write_rest.Kinds as write-rest-kinds
 use Rattle.uleb128_rec.proofs.writing.+write_rest.Lts-write_rest as lts

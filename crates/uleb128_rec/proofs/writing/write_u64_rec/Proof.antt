@@ -2,8 +2,8 @@
 use native.Mathlib.Omega.{arith}
 use borrow.Author.Needs.{needs}
 use borrow.Author.Tests.{not-true, not-false}
-use Rattle.words.proofs.Laying.{room-refused, room-there}
-use Rattle.uleb128_rec.proofs.Stores.{all-written}
+use Rattle.words.proofs.Lays.{room-refused, room-there}
+use Rattle.uleb128_rec.proofs.BytesStored.{all-written}
 use Rattle.uleb128_rec.proofs.writing.write_u64_rec.Statement.{statement}
 use Rattle.uleb128_rec.proofs.writing.write_u64_rec.Tie as tie
 

@@ -14,8 +14,8 @@ use Rattle.lists.specs.Inner.{ahead, Room, Fits, Behind}
 use Rattle.lists.specs.Promise.{ReadsStrict}
 use Rattle.lists.specs.declared.Numbers.{Numbers}
 use Rattle.lists.specs.declared.ReadList.the-variants.{Filled}
-use Rattle.lists.proofs.Scanning.{Counted, none-counted, one-counted, nothing-left, all-counted}
-use Rattle.lists.proofs.Answers.{answered, counted-room}
+use Rattle.lists.proofs.ScanLoop.{Counted, none-counted, one-counted, nothing-left, all-counted}
+use Rattle.lists.proofs.StrictAnswers.{answered, counted-room}
 
 -- the numbers stored one after another from the i-th on
 abbrev poured : Answer (List ℕ) → List ℕ → ℕ → List ℕ

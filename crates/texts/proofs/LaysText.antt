@@ -1,9 +1,9 @@
 -- Texts laid down in a buffer, one behind the other.
 --
---   nothing, joined     no text; a text and one behind it are laid down as one
---   Going t i s at ..   the first i bytes of the text t are laid down
---   begin, turn         none, and one byte more
---   full, whole         no room for more, and all of them
+--   none-laid, joined-laid     no text; a text and one behind it are laid down as one
+--   TextSoFar t i s at ..   the first i bytes of the text t are laid down
+--   text-begun, one-laid         none, and one byte more
+--   full-laid, all-laid         no room for more, and all of them
 --   laid                where there is room at the front, all of a text stands there
 use Prim.Native.Nat.{ℕ, zero, suc, _+_, _-_, _≤_, _<_}
 use mathlib.Core.Path.{_≡_, refl, ap, _∙_}
@@ -12,8 +12,8 @@ use native.Mathlib.Numerals.{add-one}
 use native.Mathlib.Omega.{arith}
 use lib.ListN.{length, take, drop, getD, length-take, length-append}
 use lib.Seq.{sets, length-sets, take-suc, take-all, take-nil, length-take-le, sets-eq}
-use Rattle.words.proofs.Laying.{sets-append}
-use Rattle.texts.specs.Texts.{Lays}
+use Rattle.words.proofs.Lays.{sets-append}
+use Rattle.texts.specs.Texts.{LaysText}
 
 take-append : (n : ℕ) (a b : List ℕ) → take n (a ++ b) ≡ take n a ++ take (n - length a) b
 take-append zero [] b = refl
@@ -23,10 +23,10 @@ take-append (suc n) (x ∷ a) b =
     let e : suc n - suc (length a) ≡ n - length a = omega arith in
     rw e (ap (λ (l : List ℕ). x ∷ l) (take-append n a b))
 
-pub nothing : {s : List ℕ} {at : ℕ} → Lays [] s at at s
-nothing {s} {at} = record { place = rw (take-nil {A = ℕ} (length s - at)) (omega arith); bytes = rw (take-nil {A = ℕ} (length s - at)) }
+pub none-laid : {s : List ℕ} {at : ℕ} → LaysText [] s at at s
+none-laid {s} {at} = record { place = rw (take-nil {A = ℕ} (length s - at)) (omega arith); bytes = rw (take-nil {A = ℕ} (length s - at)) }
 
-module _ {a b s s′ s″ : List ℕ} {at r r′ : ℕ} (p : Lays a s at r s′) (q : Lays b s′ r r′ s″) where
+module _ {a b s s′ s″ : List ℕ} {at r r′ : ℕ} (p : LaysText a s at r s′) (q : LaysText b s′ r r′ s″) where
   left : length s′ - r ≡ length s - at - length a
   left =
       let l : length s′ ≡ length s = rw (p .bytes) (length-sets s at (take (length s - at) a)) in
@@ -35,25 +35,25 @@ module _ {a b s s′ s″ : List ℕ} {at r r′ : ℕ} (p : Lays a s at r s′)
   parts : take (length s - at) (a ++ b) ≡ take (length s - at) a ++ take (length s′ - r) b
   parts = rw left (take-append (length s - at) a b)
 
-  pub joined : Lays (a ++ b) s at r′ s″
-  joined = record {
+  pub joined-laid : LaysText (a ++ b) s at r′ s″
+  joined-laid = record {
     place = rw parts (rw (length-append (take (length s - at) a) (take (length s′ - r) b)) (omega (arith, p .place, q .place)));
     bytes = rw (parts, sets-append (take (length s - at) a) (take (length s′ - r) b) s at, ← (p .place), ← (p .bytes)) (q .bytes);
   }
 
-pub record Going (t : List ℕ) (i : ℕ) (s : List ℕ) (at r : ℕ) (s′ : List ℕ) : Type 0 where
+pub record TextSoFar (t : List ℕ) (i : ℕ) (s : List ℕ) (at r : ℕ) (s′ : List ℕ) : Type 0 where
   pub within : i ≤ length t
   pub room : i ≤ length s - at
   pub place : r ≡ at + i
   pub same : length s′ ≡ length s
   pub bytes : s′ ≡ sets s at (take i t)
 
-pub begin : {t s : List ℕ} {at : ℕ} → Going t 0 s at at s
-begin {t} {s} {at} = record { within = omega arith; room = omega arith; place = omega arith; same = refl; bytes = refl }
+pub text-begun : {t s : List ℕ} {at : ℕ} → TextSoFar t 0 s at at s
+text-begun {t} {s} {at} = record { within = omega arith; room = omega arith; place = omega arith; same = refl; bytes = refl }
 
-module _ {t s s′ : List ℕ} {i at r : ℕ} (g : Going t i s at r s′) where
-  pub turn : {s″ : List ℕ} → i < length t → r < length s′ → s″ ≡ sets s′ r (getD t i 0 ∷ []) → Going t (i + 1) s at (r + 1) s″
-  turn {s″} h f e = record {
+module _ {t s s′ : List ℕ} {i at r : ℕ} (g : TextSoFar t i s at r s′) where
+  pub one-laid : {s″ : List ℕ} → i < length t → r < length s′ → s″ ≡ sets s′ r (getD t i 0 ∷ []) → TextSoFar t (i + 1) s at (r + 1) s″
+  one-laid {s″} h f e = record {
     within = omega arith;
     room = omega (arith, g .place, g .same);
     place = omega (arith, g .place);
@@ -63,25 +63,25 @@ module _ {t s s′ : List ℕ} {i at r : ℕ} (g : Going t i s at r s′) where
         rw (add-one, take-suc t i 0 h, sets-append (take i t) (getD t i 0 ∷ []) s at, n, ← (g .bytes)) e;
   }
 
-  stops : length s - at ≡ i → Lays t s at r s′
+  stops : length s - at ≡ i → LaysText t s at r s′
   stops e = record { place = rw (e, length-take-le i t (g .within)) (g .place); bytes = rw e (g .bytes) }
 
-  pub full : length s′ ≤ r → Lays t s at r s′
-  full h = stops (omega (arith, g .place, g .same, g .room))
+  pub full-laid : length s′ ≤ r → LaysText t s at r s′
+  full-laid h = stops (omega (arith, g .place, g .same, g .room))
 
-  pub whole : length t ≤ i → Lays t s at r s′
-  whole h =
+  pub all-laid : length t ≤ i → LaysText t s at r s′
+  all-laid h =
       let e = take-all (length s - at) t (omega (arith, g .room)) in
       let k : length t ≡ i = omega (arith, g .within) in
       record { place = rw (e, k) (g .place); bytes = rw e (rw (take-all i t h) at (g .bytes)) }
 
 -- where there is room for it at the front, all of a text stands there
-module _ {t s s′ : List ℕ} {r : ℕ} (room : length t ≤ length s) (p : Lays t s 0 r s′) where
+module _ {t s s′ : List ℕ} {r : ℕ} (room : length t ≤ length s) (p : LaysText t s 0 r s′) where
   all : take (length s - 0) t ≡ t
   all = take-all (length s - 0) t (omega arith)
 
   pub front-count : r ≡ length t
   front-count = p .place ∙ rw all (omega arith)
 
-  pub front : s′ ≡ t ++ drop (length t) s
-  front = let n : 0 + length t ≡ length t = omega arith in rw all at (p .bytes) ∙ rw n at (sets-eq t s 0 (omega arith))
+  pub front-laid : s′ ≡ t ++ drop (length t) s
+  front-laid = let n : 0 + length t ≡ length t = omega arith in rw all at (p .bytes) ∙ rw n at (sets-eq t s 0 (omega arith))

@@ -10,7 +10,7 @@ use lib.Dec.{ltb}
 use lib.ListN.{length, getD, drop, length-drop}
 use Rattle.groups.specs.Group.{run}
 use Rattle.groups.proofs.Run.{run-within, run-more, run-ends}
-use Rattle.groups.proofs.Walking.{byte, room}
+use Rattle.groups.proofs.WalkLoop.{byte-at, byte-inside}
 use Rattle.blocks.specs.Block.{isStart}
 
 -- high bytes were passed, and no other
@@ -28,23 +28,23 @@ module _ (s : List ℕ) (at : ℕ) where
     one-passed there h = record {
       here = omega (arith, g .here);
       within = omega arith;
-      passed = rw add-one (run-more (drop at s) high (g .passed) (room s at place high (g .here) there) (rw (byte s at place high (g .here)) h));
+      passed = rw add-one (run-more (drop at s) high (g .passed) (byte-inside s at place high (g .here) there) (rw (byte-at s at place high (g .here)) h));
     }
 
     pub low-found : getD s place 0 < 128 → high ≡ run (drop at s)
-    low-found h = sym (run-ends (drop at s) high (g .passed) (rw (byte s at place high (g .here)) h))
+    low-found h = sym (run-ends (drop at s) high (g .passed) (rw (byte-at s at place high (g .here)) h))
 
     pub end-found : length s ≤ place → high ≡ run (drop at s)
     end-found h = omega (arith, g .here, g .passed, run-within (drop at s), length-drop at s)
 
 module _ (s : List ℕ) (p : ℕ) where
-  pub front-starts : p < 1 → true ≡ isStart s p
+  pub front-is-start : p < 1 → true ≡ isStart s p
   unfolding isStart
-  front-starts h = rw (eq-eqb p 0 (omega arith))
+  front-is-start h = rw (eq-eqb p 0 (omega arith))
 
-  pub start-behind : 1 ≤ p → ltb (getD s (p - 1) 0) 128 ≡ isStart s p
+  pub low-is-start : 1 ≤ p → ltb (getD s (p - 1) 0) 128 ≡ isStart s p
   unfolding isStart
-  start-behind h = rw (ne-eqb p 0 (λ e. omega arith))
+  low-is-start h = rw (ne-eqb p 0 (λ e. omega arith))
 
 -- a run stays within the block
 pub within : (s : List ℕ) (p : ℕ) → p ≤ length s → p + run (drop p s) ≤ length s

@@ -17,16 +17,16 @@ use Rattle.words.specs.declared.Count.{Count}
 use Rattle.groups.specs.Group.{Bytes, run, digits}
 use Rattle.groups.specs.Width.{runsOut, tooLarge, tooMany, reading, read, Reads}
 use Rattle.groups.proofs.Run.{run-low, run-high, at-run, digits-take, pow-up}
-use Rattle.groups.proofs.Rows.{read-from, row-end, row-large, row-number, keeps}
-use Rattle.groups.proofs.Walks.{overrun}
-use Rattle.groups.proofs.Standing.{stands, count-within}
+use Rattle.groups.proofs.Rows.{read-from, row-end, row-large, row-number, due-kept}
+use Rattle.groups.proofs.FromWalk.{overrun}
+use Rattle.groups.proofs.Stands.{read-stands, count-within}
 use Rattle.uleb128.specs.Unsigned.{unsigned}
 use Rattle.uleb128_rec.specs.Inner.{ahead, Joins}
 use Rattle.uleb128.specs.Promise.{meansReadU64}
 use Rattle.uleb128.specs.declared.ReadU64.{ReadU64}
 use Rattle.uleb128.specs.declared.ReadU64.the-variants.{Number}
 use Rattle.uleb128.proofs.Widths.{sound}
-use Rattle.uleb128.proofs.Exactly.{read-begins}
+use Rattle.uleb128.proofs.ReadsForms.{read-begins}
 
 -- a number that is one byte 0
 zero-alone : (l : List ℕ) → run l ≡ 0 → getD l (run l) 0 ≡ 0 → digits (take (run l + 1) l) ≡ 0
@@ -82,9 +82,9 @@ module _ (k top : ℕ) (some : 0 < k) (b : ℕ) (l : List ℕ) (hi : 128 ≤ b) 
       ne-eqb (digits (take (run l + 1) l)) 0 (λ e. omega (arith, above-zero l z)) in
       rw (ne-eqb b 0 (λ e. omega arith), both-false (ltb 0 (run l)), v))
 
-  pub step : reading (unsigned (suc k) top) (b ∷ l) ≡ ahead b (reading (unsigned k top) l)
+  pub reading-step : reading (unsigned (suc k) top) (b ∷ l) ≡ ahead b (reading (unsigned k top) l)
   unfolding reading digits
-  step =
+  reading-step =
       let j : suc (run l) + 1 ≡ suc (run l + 1) = omega arith in
       rw (out-step, large-step, many-step, run-high b l hi, j, last-step, ← (add-one (run l + 1)))
       (sym (ahead-pick b (by 1) (runsOut (unsigned k top) l) _ ∙ ap (pick (runsOut (unsigned k top) l) (refused (by 1)))
@@ -96,7 +96,7 @@ module _ (left : ℕ) (some : 0 < left) (s : List ℕ) (at : ℕ) where
   unfolding run
   rest-end h e =
       let n : drop at s ≡ [] = drop-of-length-le s e in
-      keeps (read-from (unsigned left 1) s at h ∙ rw n (row-end (unsigned left 1) [] refl some))
+      due-kept (read-from (unsigned left 1) s at h ∙ rw n (row-end (unsigned left 1) [] refl some))
 
   module _ (there : at < length s) where
     bytes-from : drop at s ≡ getD s at 0 ∷ drop (suc at) s
@@ -109,14 +109,14 @@ module _ (left : ℕ) (some : 0 < left) (s : List ℕ) (at : ℕ) where
       pub rest-large : left < 2 → 1 < getD s at 0 → Reads (unsigned left 1) s at (refused (by 2))
       rest-large l h =
           let i : left - 1 ≡ 0 = omega arith in
-          keeps
+          due-kept
           (reading-from ∙ row-large (unsigned left 1) (getD s at 0 ∷ drop (suc at) s) (omega arith) (omega arith) (rw i (lt-leb (getD s at 0) 1 h)))
 
       pub rest-last : (left < 2 → getD s at 0 ≤ 1) → Reads (unsigned left 1) s at (gives (getD s at 0, 1))
       unfolding digits
       rest-last f =
           let z = run-low (getD s at 0) (drop (suc at) s) low in
-          keeps
+          due-kept
           (reading-from ∙ row-number (unsigned left 1) (getD s at 0 ∷ drop (suc at) s) (rw z (omega arith)) (rw z (omega arith))
           (λ e. rw z (le-leb (getD s at 0) 1 (f (omega arith)))) (λ h. absurd (omega arith))
           ∙ rw (z, mod-eq-of-lt low, add-zero))
@@ -124,7 +124,7 @@ module _ (left : ℕ) (some : 0 < left) (s : List ℕ) (at : ℕ) where
     module _ (high : 128 ≤ getD s at 0) where
       pub rest-overrun : left < 2 → Reads (unsigned left 1) s at (refused (by 2))
       rest-overrun l =
-          keeps
+          due-kept
           (overrun (unsigned left 1) (sound left 1 some (omega arith)) s at (omega arith)
           (rw (bytes-from, run-high (getD s at 0) (drop (suc at) s) high) (omega arith)))
 
@@ -134,25 +134,25 @@ module _ (left : ℕ) (some : 0 < left) (s : List ℕ) (at : ℕ) where
           let n : suc (left - 1) ≡ left = omega arith in
           let q : reading (unsigned left 1) (getD s at 0 ∷ rest) ≡ ahead (getD s at 0) (reading (unsigned (left - 1) 1) rest) =
           subst (λ (m : ℕ). reading (unsigned m 1) (getD s at 0 ∷ rest) ≡ ahead (getD s at 0) (reading (unsigned (left - 1) 1) rest)) n
-          (step (left - 1) 1 (omega arith) (getD s at 0) rest high) in
+          (reading-step (left - 1) 1 (omega arith) (getD s at 0) rest high) in
           let d : read (unsigned (left - 1) 1) s (at + 1) ≡ reading (unsigned (left - 1) 1) rest =
           read-from (unsigned (left - 1) 1) s (at + 1) (omega arith) ∙ ap (λ (i : ℕ). reading (unsigned (left - 1) 1) (drop i s)) (add-one at) in
           reading-from ∙ q ∙ ap (ahead (getD s at 0)) (sym (p ∙ d))
 
-pub joins : (most : ℕ) (s : List ℕ) (at : ℕ) (a : Answer (ℕ × ℕ)) → 0 < most → most < 10 → Bytes s → a ≡ read (unsigned most 1) s at → Joins a
-joins most s at (gives x) some few bytes p =
-    let g = stands (unsigned most 1) s at (sound most 1 some (omega arith)) bytes (sym p) in
+pub reads-joins : (most : ℕ) (s : List ℕ) (at : ℕ) (a : Answer (ℕ × ℕ)) → 0 < most → most < 10 → Bytes s → a ≡ read (unsigned most 1) s at → Joins a
+reads-joins most s at (gives x) some few bytes p =
+    let g = read-stands (unsigned most 1) s at (sound most 1 some (omega arith)) bytes (sym p) in
     let u : x .0 < 128 ^ (most - 1) * (1 + 1) = read-begins most 1 some (omega arith) s at bytes (sym p) .of-width in
     let c : x .1 ≤ most = count-within (unsigned most 1) (sound most 1 some (omega arith)) g in
     let h : 128 ^ (most - 1) ≤ 128 ^ 8 = pow-up (most - 1) 8 (omega arith) in
     (omega arith, omega arith)
-joins most s at (refused k) some few bytes p = tt
+reads-joins most s at (refused k) some few bytes p = tt
 
 -- a byte in front of an answer, by its case
 module _ (b : ℕ) {r : ReadU64} where
   module _ {v : ℕ} {n : Count} (e : r ≡ Number v n) where
-    pub room : Joins (meansReadU64 r) → (v < 2 ^ 57) × (n .0 < 10)
-    room j = rw e at j
+    pub joins-room : Joins (meansReadU64 r) → (v < 2 ^ 57) × (n .0 < 10)
+    joins-room j = rw e at j
 
     pub ahead-zero : v < 1 → ahead b (meansReadU64 r) ≡ refused (by 3)
     ahead-zero z = rw (e, eq-eqb v 0 (omega arith))

@@ -1,8 +1,8 @@
 -- A reading accepts exactly where a group that the width accepts stands at the place, whatever follows it.
 --
 --   Stands w s at v n     such a group stands there, v is its value and n its length
---   behind                more bytes behind a group change nothing
---   stands, standing      from the reading to the group, and back
+--   reading-behind                more bytes behind a group change nothing
+--   read-stands, stands-read      from the reading to the group, and back
 use Prim.Native.Nat.{ℕ, suc, _+_, _-_, _≤_, _<_}
 use mathlib.Core.Path.{_≡_, refl, ap, sym, _∙_}
 use mathlib.Core.List.{List, [], _∷_, _++_, append-nil}
@@ -17,7 +17,7 @@ use Rattle.groups.specs.Group.{Bytes, run, Group, one, more}
 use Rattle.groups.specs.Width.{Width, runsOut, tooLarge, tooMany, reading, read}
 use Rattle.groups.proofs.Run.{run-low, run-high, run-within, in-run}
 use Rattle.groups.proofs.Rows.{closed-not-out, short-not-large, too-large, row-end, read-past, read-from}
-use Rattle.groups.proofs.Walks.{Sound, overrun}
+use Rattle.groups.proofs.FromWalk.{Sound, overrun}
 use Rattle.groups.proofs.Exact.{group-length}
 
 pub record Stands {A : Type 0} (w : Width A) (s : List ℕ) (at : ℕ) (v : A) (n : ℕ) : Type 0 where
@@ -58,9 +58,9 @@ module _ {A : Type 0} (w : Width A) {g : List ℕ} (rest : List ℕ) (r : Group 
   unfolding tooMany
   many-behind = rw (run-behind rest r, same-byte (run g - 1) (omega arith), same-byte (run g) (omega arith))
 
-  pub behind : reading w (g ++ rest) ≡ pick (tooLarge w g) (refused (by 2)) (pick (tooMany w g) (refused (by 3)) (gives (w .value g, length g)))
+  pub reading-behind : reading w (g ++ rest) ≡ pick (tooLarge w g) (refused (by 2)) (pick (tooMany w g) (refused (by 3)) (gives (w .value g, length g)))
   unfolding reading
-  behind =
+  reading-behind =
       let n : run g + 1 ≡ length g = omega (arith, group-length r) in
       let out : runsOut w (g ++ rest) ≡ false =
       closed-not-out w (g ++ rest) (rw (run-behind rest r, length-append g rest) (omega (arith, group-length r))) in
@@ -76,9 +76,9 @@ paired {A} {a} {b} {m} {n} e =
     (sym (ap (λ (x : A × ℕ). x .0) q), sym (ap (λ (x : A × ℕ). x .1) q))
 
 module _ {A : Type 0} (w : Width A) (s : List ℕ) (at : ℕ) where
-  pub standing : {v : A} {n : ℕ} → Stands w s at v n → read w s at ≡ gives (v, n)
-  standing g =
-      read-from w s at (g .here) ∙ rw (g .begins, behind w (g .rest) (g .is-group), g .not-large, g .not-many, g .value, g .count)
+  pub stands-read : {v : A} {n : ℕ} → Stands w s at v n → read w s at ≡ gives (v, n)
+  stands-read g =
+      read-from w s at (g .here) ∙ rw (g .begins, reading-behind w (g .rest) (g .is-group), g .not-large, g .not-many, g .value, g .count)
 
   module _ (sound : Sound w) (bytes : Bytes s) {v : A} {n : ℕ} (e : read w s at ≡ gives (v, n)) where
     apart : {X : Type 0} {k : Why} → read w s at ≡ refused k → X
@@ -98,13 +98,13 @@ module _ {A : Type 0} (w : Width A) (s : List ℕ) (at : ℕ) where
     bytes-from : Bytes (drop at s)
     bytes-from i = rw (getD-drop at s i 0) (bytes (at + i))
 
-    pub stands : Stands w s at v n
-    stands =
+    pub read-stands : Stands w s at v n
+    read-stands =
         let l = drop at s in
         let split : l ≡ take (run l + 1) l ++ drop (run l + 1) l = sym (take-append-drop (run l + 1) l) in
         let r = front-group l bytes-from stands-closed in
         let a = accept (tooLarge w (take (run l + 1) l)) (by 2) _
-        (sym (behind w (drop (run l + 1) l) r) ∙ sym (ap (reading w) split) ∙ sym (read-from w s at stands-here) ∙ e) in
+        (sym (reading-behind w (drop (run l + 1) l) r) ∙ sym (ap (reading w) split) ∙ sym (read-from w s at stands-here) ∙ e) in
         let b = accept (tooMany w (take (run l + 1) l)) (by 3) _ (a .1) in
         let p = paired (b .1) in
         record {
@@ -137,8 +137,8 @@ unfolding reading
 reading-count w l e = paired (accept (tooMany w l) (by 3) _ (accept (tooLarge w l) (by 2) _ (accept (runsOut w l) (by 1) _ e .1) .1) .1) .1
 
 -- a group read where it stands is read as it is alone
-pub alone : {A : Type 0} (w : Width A) (l : List ℕ) → Bytes l → run l < length l → reading w l ≡ reading w (take (run l + 1) l)
-alone w l bytes h =
+pub reading-alone : {A : Type 0} (w : Width A) (l : List ℕ) → Bytes l → run l < length l → reading w l ≡ reading w (take (run l + 1) l)
+reading-alone w l bytes h =
     let r = front-group l bytes h in
-    ap (reading w) (sym (take-append-drop (run l + 1) l)) ∙ behind w (drop (run l + 1) l) r ∙ sym (behind w [] r)
+    ap (reading w) (sym (take-append-drop (run l + 1) l)) ∙ reading-behind w (drop (run l + 1) l) r ∙ sym (reading-behind w [] r)
     ∙ ap (reading w) (append-nil (take (run l + 1) l))

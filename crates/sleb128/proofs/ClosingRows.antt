@@ -8,7 +8,7 @@ use borrow.Author.Tests.{lt-ltb, le-ltb, le-leb, lt-leb, ne-eqb}
 use lib.Dec.{leb, ltb, eqb}
 use Rattle.words.specs.Answer.{gives, refused, by}
 use Rattle.words.proofs.Cases.{both-false}
-use Rattle.groups.proofs.Run.{limit, pow-up}
+use Rattle.groups.proofs.Run.{pow-up, below-limit}
 use Rattle.sleb128.specs.Signed.{signed}
 use Rattle.sleb128.specs.Inner.{closing, Closes}
 
@@ -44,7 +44,7 @@ module _ (b : Bool) (low weight high bits : ℕ) where
 
   pub closing-fits : Closes low weight high bits → (8 < high → bits ≤ 0) → low + weight * bits < 2 ^ 63
   closing-fits k f =
-      omega (arith, limit (k .under) (k .weighs) (omega (arith, k .small)) 9 0 (omega (arith, k .few)) (λ e. f (omega arith)))
+      omega (arith, below-limit (k .under) (k .weighs) (omega (arith, k .small)) 9 0 (omega (arith, k .few)) (λ e. f (omega arith)))
 
   pub low-fits : Closes low weight high bits → low < 2 ^ 63
   low-fits k = omega (arith, k .under, k .weighs, pow-up high 9 (omega (arith, k .few)))

@@ -16,14 +16,14 @@ use Rattle.words.proofs.Cases.{by-order}
 use Rattle.groups.specs.Width.{reading}
 use Rattle.texts.specs.Texts.{ascii}
 use Rattle.uleb128.specs.Unsigned.{u64}
-use Rattle.blocks.specs.Block.{block-limit, unsigned, valued, says}
+use Rattle.blocks.specs.Block.{unsigned, valued, says, blockLimit}
 use Rattle.blocks.specs.GroupsAndTail.{Start, cut}
 use Rattle.blocks.specs.declared.Rule.the-variants.{Unsigned}
 use Rattle.blocks.proofs.FromStart.{AtStart, the-end, a-tail, a-group, front-start, from-start, here-long, here-within, next-start, end-cut, tail-cut, group-cut, end-says, tail-says, group-says}
 use Rattle.listing.specs.Listing.{row, rowOf, groupRow, rows, text, Stage, top, at, ended, Coming, line, over, lineOf, next}
 
 pub record StartWithin (s : List ℕ) (p : ℕ) : Type 0 where
-  pub short : length s ≤ block-limit
+  pub short : length s ≤ blockLimit
   pub start : Start s p
 
 abbrev pub Fine : List ℕ → Stage → Type 0
@@ -70,11 +70,11 @@ at-start s p b (a-group g k) =
 pub coming : (s : List ℕ) (g : Stage) → Fine s g → Left s g (next s g)
 unfolding text
 coming s top fine =
-    by-order block-limit (length s)
-    (λ long. rw (lt-ltb block-limit (length s) long) (more (ascii "refused 7\n") ended tt (rw (lt-ltb block-limit (length s) long)) (omega arith)))
+    by-order blockLimit (length s)
+    (λ long. rw (lt-ltb blockLimit (length s) long) (more (ascii "refused 7\n") ended tt (rw (lt-ltb blockLimit (length s) long)) (omega arith)))
     (λ short.
-    rw (le-ltb block-limit (length s) short)
+    rw (le-ltb blockLimit (length s) short)
     (more (ascii "place what value\n") (at 0) (record { short = short; start = front-start s })
-    (rw (le-ltb block-limit (length s) short)) (omega arith)))
+    (rw (le-ltb blockLimit (length s) short)) (omega arith)))
 coming s (at p) fine = at-start s p fine (from-start (fine .start))
 coming s ended fine = none refl

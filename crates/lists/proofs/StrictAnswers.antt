@@ -8,7 +8,7 @@ use lib.ListN.{length}
 use Rattle.words.specs.Answer.{Answer, gives, refused, by, because, Why}
 use Rattle.words.specs.declared.Refusal.{Refusal}
 use Rattle.words.specs.declared.Refusal.the-variants.{TooLong, NoRoom}
-use Rattle.blocks.specs.Block.{block-limit}
+use Rattle.blocks.specs.Block.{blockLimit}
 use Rattle.lists.specs.Strict.{numbers, counted, filling, strict, filled}
 use Rattle.lists.specs.Inner.{many, Room, Fits}
 use Rattle.lists.specs.Promise.{meansReadList, ReadsStrict}
@@ -16,11 +16,11 @@ use Rattle.lists.specs.declared.ReadList.{ReadList}
 use Rattle.lists.specs.declared.ReadList.the-variants.{Refused}
 
 -- strict reading, from what the numbers of the block come to
-module _ (s old : List ℕ) (short : length s ≤ block-limit) where
+module _ (s old : List ℕ) (short : length s ≤ blockLimit) where
   pub answered : {r : ReadList} {out : List ℕ} → meansReadList r ≡ counted (numbers s) (length old) → out ≡ filling (numbers s) old
       → ReadsStrict s old r out
   unfolding strict filled
-  answered e f = let t = le-ltb block-limit (length s) short in record { answer = rw t e; leaves = rw t f }
+  answered e f = let t = le-ltb blockLimit (length s) short in record { answer = rw t e; leaves = rw t f }
 
 pub counted-room : (a : Answer (List ℕ)) (room : ℕ) → Room a 0 room → many a ≡ counted a room
 counted-room (gives ns) room h = rw (le-leb (length ns) room (omega arith))
@@ -46,16 +46,16 @@ filling-fault : (a : Answer (List ℕ)) {k : Why} (old : List ℕ) → refused k
 filling-fault (gives ns) old e = let z : _≡_ {A = ℕ} 0 1 = cc in absurd (omega arith)
 filling-fault (refused k) old e = refl
 
-pub list-fits : (s : List ℕ) {n room : ℕ} → length s ≤ block-limit → gives n ≡ many (numbers s) → n ≤ room → Fits s room
+pub list-fits : (s : List ℕ) {n room : ℕ} → length s ≤ blockLimit → gives n ≡ many (numbers s) → n ≤ room → Fits s room
 list-fits s short e h = record { short = short; enough = room-of (numbers s) e h }
 
 module _ (s old : List ℕ) where
-  pub block-too-long : block-limit < length s → ReadsStrict s old (Refused TooLong) old
+  pub block-too-long : blockLimit < length s → ReadsStrict s old (Refused TooLong) old
   unfolding strict filled
-  block-too-long h = let t = lt-ltb block-limit (length s) h in record { answer = rw t; leaves = rw t }
+  block-too-long h = let t = lt-ltb blockLimit (length s) h in record { answer = rw t; leaves = rw t }
 
-  pub block-faulty : {k : Refusal} → length s ≤ block-limit → refused (because k) ≡ many (numbers s) → ReadsStrict s old (Refused k) old
+  pub block-faulty : {k : Refusal} → length s ≤ blockLimit → refused (because k) ≡ many (numbers s) → ReadsStrict s old (Refused k) old
   block-faulty h e = answered s old h (counted-fault (numbers s) (length old) e) (filling-fault (numbers s) old e)
 
-  pub list-full : {n : ℕ} → length s ≤ block-limit → gives n ≡ many (numbers s) → length old < n → ReadsStrict s old (Refused NoRoom) old
+  pub list-full : {n : ℕ} → length s ≤ blockLimit → gives n ≡ many (numbers s) → length old < n → ReadsStrict s old (Refused NoRoom) old
   list-full short e h = answered s old short (counted-full (numbers s) (length old) e h) (filling-full (numbers s) old e h)

@@ -20,7 +20,7 @@ use lib.Dec.{leb}
 use lib.ListN.{length, take, drop, set}
 use lib.Seq.{sets, sets-eq}
 use Rattle.words.specs.Answer.{gives, refused, meansWritten, because}
-use Rattle.words.specs.Laying.{writing, laid, Lays}
+use Rattle.words.specs.Lays.{writing, laid, Lays}
 use Rattle.words.specs.Promise.{HasRoom}
 use Rattle.words.specs.declared.Count.{Count}
 use Rattle.words.specs.declared.Refusal.{Refusal}

@@ -17,7 +17,7 @@ use Rattle.groups.specs.Begins.{Begins}
 use Rattle.groups.proofs.Run.{at-run}
 use Rattle.groups.proofs.Spelling.{said, said-digits, spelled-group, spelled-said, last-small, group-bounds, complements}
 use Rattle.groups.proofs.Exact.{accepts, accepted, group-length}
-use Rattle.groups.proofs.Standing.{stands, standing}
+use Rattle.groups.proofs.Stands.{read-stands, stands-read}
 use Rattle.sleb128.specs.Signed.{below, form, twos, i64}
 use Rattle.sleb128.proofs.Forms.{form-spelled}
 use Rattle.sleb128.proofs.Widths.{sound, spells, pow-seven, half-seven}
@@ -77,7 +77,7 @@ form-value (negsuc n) =
 module _ (s : List ℕ) (at : ℕ) {v : ℤ} {n : ℕ} where
   pub read-begins : Bytes s → read i64 s at ≡ gives (v, n) → Begins form (λ x. mag x < 2 ^ 63) s at v n
   read-begins bytes e =
-      let g = stands i64 s at sound bytes e in
+      let g = read-stands i64 s at sound bytes e in
       let a = accepted-form (g .is-group) (g .not-large) (g .not-many) in
       let f : g .group ≡ form v = a .0 ∙ ap form (sym (g .value)) in
       record { here = g .here; of-width = rw (g .value) (a .1); rest = g .rest; begins = g .begins ∙ rw f; count = g .count ∙ ap length f }
@@ -86,7 +86,7 @@ module _ (s : List ℕ) (at : ℕ) {v : ℤ} {n : ℕ} where
   unfolding form
   begins-read b =
       let a = accepts (spells (below v)) (b .of-width) in
-      standing i64 s at (record {
+      stands-read i64 s at (record {
         here = b .here;
         group = form v;
         rest = b .rest;

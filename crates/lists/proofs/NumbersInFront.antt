@@ -9,7 +9,7 @@ use Rattle.groups.specs.Group.{run}
 use Rattle.groups.specs.Width.{reading}
 use Rattle.uleb128.specs.Unsigned.{u64}
 use Rattle.blocks.specs.GroupsAndTail.{cut}
-use Rattle.blocks.proofs.Cuts.{cut-group, cut-tail}
+use Rattle.blocks.proofs.Cut.{cut-group, cut-tail}
 use Rattle.lists.specs.Strict.{joined, numbersOf, numbers}
 
 pub numbers-group : (l : List ℕ) → run l < length l

@@ -14,7 +14,7 @@ use Rattle.groups.specs.declared.Walked.the-variants.{Past, Open, Long, 
 use Rattle.groups.proofs.Run.{run-within, run-more, run-ends, digits-take, digits-take-below, pow-up}
 
 -- what the loop has done: the high bytes passed, what they sum to, and what the next one weighs
-pub record Going (s : List ℕ) (at place high sum weight : ℕ) : Type 0 where
+pub record WalkedSoFar (s : List ℕ) (at place high sum weight : ℕ) : Type 0 where
   pub here : place ≡ at + high
   pub within : place ≤ length s
   pub few : high ≤ 9
@@ -23,17 +23,17 @@ pub record Going (s : List ℕ) (at place high sum weight : ℕ) : Type 0 where
   pub sums : sum ≡ digits (take high (drop at s))
 
 module _ (s : List ℕ) (at : ℕ) where
-  pub byte : (place high : ℕ) → place ≡ at + high → getD (drop at s) high 0 ≡ getD s place 0
-  byte place high e = rw (e, getD-drop at s high 0)
+  pub byte-at : (place high : ℕ) → place ≡ at + high → getD (drop at s) high 0 ≡ getD s place 0
+  byte-at place high e = rw (e, getD-drop at s high 0)
 
-  pub room : (place high : ℕ) → place ≡ at + high → place < length s → high < length (drop at s)
-  room place high e h = rw (length-drop at s) (omega arith)
+  pub byte-inside : (place high : ℕ) → place ≡ at + high → place < length s → high < length (drop at s)
+  byte-inside place high e h = rw (length-drop at s) (omega arith)
 
-  pub starts : at ≤ length s → Going s at at 0 0 1
+  pub none-walked : at ≤ length s → WalkedSoFar s at at 0 0 1
   unfolding digits
-  starts h = record { here = omega arith; within = h; few = omega arith; passed = omega arith; weighs = refl; sums = refl }
+  none-walked h = record { here = omega arith; within = h; few = omega arith; passed = omega arith; weighs = refl; sums = refl }
 
-  module _ {place high sum weight : ℕ} (g : Going s at place high sum weight) where
+  module _ {place high sum weight : ℕ} (g : WalkedSoFar s at place high sum weight) where
     -- the sum is below the weight, so that seven bits more stay below 128 times it
     sum-below : sum < weight
     sum-below =
@@ -52,25 +52,25 @@ module _ (s : List ℕ) (at : ℕ) where
 
     module _ (there : place < length s) where
       byte-there : getD (drop at s) high 0 ≡ getD s place 0
-      byte-there = byte place high (g .here)
+      byte-there = byte-at place high (g .here)
 
-      pub goes-on : 128 ≤ getD s place 0 → high < 9
-          → Going s at (place + 1) (high + 1) (sum + weight * (getD s place 0 % 128)) (weight * 128)
-      goes-on h f = record {
+      pub one-walked : 128 ≤ getD s place 0 → high < 9
+          → WalkedSoFar s at (place + 1) (high + 1) (sum + weight * (getD s place 0 % 128)) (weight * 128)
+      one-walked h f = record {
         here = omega arith;
         within = omega arith;
         few = omega arith;
-        passed = rw add-one (run-more (drop at s) high (g .passed) (room place high (g .here) there) (rw byte-there h));
+        passed = rw add-one (run-more (drop at s) high (g .passed) (byte-inside place high (g .here) there) (rw byte-there h));
         weighs = rw (add-one, g .weighs) (omega (arith, pow-succ' 128 high));
         sums =
-            rw (digits-take (drop at s) high (room place high (g .here) there), byte-there, ← (g .sums), ← (g .weighs));
+            rw (digits-take (drop at s) high (byte-inside place high (g .here) there), byte-there, ← (g .sums), ← (g .weighs));
       }
 
-      pub closes : getD s place 0 < 128 → Walks s at (Closed sum weight high (getD s place 0))
+      pub walk-closes : getD s place 0 < 128 → Walks s at (Closed sum weight high (getD s place 0))
       unfolding walked walking
-      closes h =
+      walk-closes h =
           let e : run (drop at s) ≡ high = run-ends (drop at s) high (g .passed) (rw byte-there h) in
-          let ne : high ≡ length (drop at s) → ⊥ = λ q. omega (arith, room place high (g .here) there) in
+          let ne : high ≡ length (drop at s) → ⊥ = λ q. omega (arith, byte-inside place high (g .here) there) in
           record {
             is =
                 rw (
@@ -84,20 +84,20 @@ module _ (s : List ℕ) (at : ℕ) where
                 );
           }
 
-      pub overruns : 128 ≤ getD s place 0 → 8 < high → Walks s at Long
+      pub walk-overruns : 128 ≤ getD s place 0 → 8 < high → Walks s at Long
       unfolding walked walking
-      overruns h f =
+      walk-overruns h f =
           let e : suc high ≤ run (drop at s) =
-          run-more (drop at s) high (g .passed) (room place high (g .here) there) (rw byte-there h) in
+          run-more (drop at s) high (g .passed) (byte-inside place high (g .here) there) (rw byte-there h) in
           record { is = rw (le-ltb (length s) at (omega arith), le-leb 10 (run (drop at s)) (omega arith)) }
 
-    pub runs-dry : length s ≤ place → Walks s at (Open high)
+    pub walk-runs-dry : length s ≤ place → Walks s at (Open high)
     unfolding walked walking
-    runs-dry h =
+    walk-runs-dry h =
         let n : length (drop at s) ≡ high = length-drop at s ∙ omega arith in
         let e : run (drop at s) ≡ high = omega (arith, run-within (drop at s)) in
         record { is = rw (le-ltb (length s) at (omega arith), e, lt-leb 10 high (omega arith), eq-eqb high (length (drop at s)) (omega arith)) }
 
-  pub past : length s < at → Walks s at Past
+  pub walk-past : length s < at → Walks s at Past
   unfolding walked
-  past h = record { is = rw (lt-ltb (length s) at h) }
+  walk-past h = record { is = rw (lt-ltb (length s) at h) }

@@ -12,7 +12,7 @@ use Rattle.groups.specs.Begins.{Begins}
 use Rattle.groups.proofs.Run.{at-run}
 use Rattle.groups.proofs.Spelling.{said, said-digits, spelled-said}
 use Rattle.groups.proofs.Exact.{accepts, accepted, group-length}
-use Rattle.groups.proofs.Standing.{stands, standing}
+use Rattle.groups.proofs.Stands.{read-stands, stands-read}
 use Rattle.uleb128.specs.Unsigned.{form, unsigned}
 use Rattle.uleb128.specs.Promise.{meansReadU64}
 use Rattle.uleb128.specs.declared.ReadU64.{ReadU64}
@@ -27,7 +27,7 @@ module _ (most top : ℕ) (some : 0 < most) (low : top < 128) (s : List ℕ) (at
   pub read-begins : Bytes s → read (unsigned most top) s at ≡ gives (v, n) → Begins form (Under most top) s at v n
   unfolding form
   read-begins bytes e =
-      let g = stands (unsigned most top) s at (sound most top some low) bytes e in
+      let g = read-stands (unsigned most top) s at (sound most top some low) bytes e in
       let closed : run (g .group) < length (g .group) = omega (arith, group-length (g .is-group)) in
       let d : said false (g .group) ≡ v = said-digits (g .group) ∙ sym (g .value) in
       let a = accepted (spells most top some low) (g .is-group) (at-run (g .group) closed) (g .not-large) (g .not-many) in
@@ -38,7 +38,7 @@ module _ (most top : ℕ) (some : 0 < most) (low : top < 128) (s : List ℕ) (at
   unfolding form
   begins-read b =
       let a = accepts (spells most top some low) (b .of-width) in
-      standing (unsigned most top) s at (record {
+      stands-read (unsigned most top) s at (record {
         here = b .here;
         group = form v;
         rest = b .rest;

@@ -1,6 +1,6 @@
 -- What a reader of numbers says at a group's place is the reading of the group alone.
 --
---   told        a reader's answer r, which was matched as q, said as a reading
+--   valued-as        a reader's answer r, which was matched as q, said as a reading
 --   read-alone  by any rule, reading at the place is reading the group
 --   said-number, said-gap   what a step says of a group, by its reading
 use Prim.Native.Nat.{ℕ, _+_, _<_}
@@ -13,22 +13,22 @@ use Rattle.words.specs.Answer.{Answer, gives, refused, Why}
 use Rattle.groups.specs.Group.{Bytes, run}
 use Rattle.groups.specs.Width.{Width, reading, read}
 use Rattle.groups.proofs.Rows.{read-from}
-use Rattle.groups.proofs.Standing.{alone}
+use Rattle.groups.proofs.Stands.{reading-alone}
 use Rattle.uleb128.specs.Unsigned.{u64}
 use Rattle.sleb128.specs.Signed.{i64}
 use Rattle.blocks.specs.Block.{Val, unsigned, signed, number, gap, valued, readBy, says}
-use Rattle.blocks.specs.Inner.{read-by}
+use Rattle.blocks.specs.Inner.{readAt}
 use Rattle.blocks.specs.declared.Rule.{Rule}
 use Rattle.blocks.specs.declared.Rule.the-variants.{Unsigned, Signed}
 
-pub told : {A R : Type 0} (meaning : R → Answer (A × ℕ)) (f : A → Val) {a : Answer (A × ℕ)} {r q : R} → meaning r ≡ a → r ≡ q → valued f (meaning q) ≡ valued f a
-told meaning f e g = ap (valued f) (ap meaning (sym g) ∙ e)
+pub valued-as : {A R : Type 0} (meaning : R → Answer (A × ℕ)) (f : A → Val) {a : Answer (A × ℕ)} {r q : R} → meaning r ≡ a → r ≡ q → valued f (meaning q) ≡ valued f a
+valued-as meaning f e g = ap (valued f) (ap meaning (sym g) ∙ e)
 
 module _ (s : List ℕ) (p : ℕ) (bytes : Bytes s) (h : p + run (drop p s) < length s) where
   whole : {A : Type 0} (w : Width A) → read w s p ≡ reading w (take (run (drop p s) + 1) (drop p s))
-  whole w = read-from w s p (omega arith) ∙ alone w (drop p s) (λ i. rw (getD-drop p s i 0) (bytes (p + i))) (omega (arith, length-drop p s))
+  whole w = read-from w s p (omega arith) ∙ reading-alone w (drop p s) (λ i. rw (getD-drop p s i 0) (bytes (p + i))) (omega (arith, length-drop p s))
 
-  pub read-alone : (rule : Rule) → read-by rule s p ≡ readBy rule (take (run (drop p s) + 1) (drop p s))
+  pub read-alone : (rule : Rule) → readAt rule s p ≡ readBy rule (take (run (drop p s) + 1) (drop p s))
   read-alone Unsigned = ap (valued unsigned) (whole u64)
   read-alone Signed = ap (valued signed) (whole i64)
 

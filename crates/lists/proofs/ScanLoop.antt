@@ -5,12 +5,12 @@ use mathlib.Core.List.{List, []}
 use native.Mathlib.Omega.{arith}
 use lib.ListN.{length, drop, length-drop}
 use Rattle.words.specs.Answer.{Answer, gives, refused, Why}
-use Rattle.blocks.specs.Block.{block-limit}
+use Rattle.blocks.specs.Block.{blockLimit}
 use Rattle.blocks.specs.GroupsAndTail.{Start}
 use Rattle.blocks.proofs.FromStart.{front-start}
 use Rattle.lists.specs.Strict.{numbers}
 use Rattle.lists.specs.Inner.{ahead, many, StartsBefore, Behind}
-use Rattle.lists.proofs.Fronts.{numbers-none}
+use Rattle.lists.proofs.NumbersInFront.{numbers-none}
 
 abbrev added : ℕ → Answer ℕ → Answer ℕ
 added n (gives m) = gives (n + m)
@@ -26,13 +26,13 @@ added-one n v (refused k) = refl
 
 -- count numbers stand in front of the start at
 pub record Counted (s : List ℕ) (at count : ℕ) : Type 0 where
-  pub short : length s ≤ block-limit
+  pub short : length s ≤ blockLimit
   pub start : Start s at
   pub few : count ≤ at
   pub left : many (numbers s) ≡ added count (many (numbers (drop at s)))
 
 module _ (s : List ℕ) where
-  pub none-counted : length s ≤ block-limit → Counted s 0 0
+  pub none-counted : length s ≤ blockLimit → Counted s 0 0
   none-counted h =
       record {
         short = h;

@@ -11,8 +11,8 @@ use lib.Seq.{paste, paste-zero, paste-suc, take-length, getD-drop, drop-drop}
 use Rattle.words.specs.declared.Count.{Count}
 use Rattle.words.specs.declared.Written.the-variants.{Bytes}
 use Rattle.groups.specs.Form.{say, groups}
-use Rattle.words.specs.Laying.{Lays}
-use Rattle.words.proofs.Laying.{fits-there}
+use Rattle.words.specs.Lays.{Lays}
+use Rattle.words.proofs.Lays.{fits-there}
 use Rattle.groups.proofs.Spelling.{length-groups}
 
 -- all of the bytes pasted are the bytes laid down

@@ -19,10 +19,10 @@ use Rattle.groups.specs.Group.{digits}
 use Rattle.groups.specs.Form.{say}
 use Rattle.groups.specs.Width.{read}
 use Rattle.groups.proofs.Run.{digits-take, digits-take-below}
-use Rattle.groups.proofs.Walks.{Closing, closed-large, closed-many, closed-number, closed-digits, closed-below}
+use Rattle.groups.proofs.FromWalk.{Closing, closed-large, closed-many, closed-number, closed-digits, closed-below}
 use Rattle.sleb128.specs.Signed.{signed, twos, i64}
 use Rattle.sleb128.specs.Inner.{closing, Closes}
-use Rattle.sleb128.proofs.Closings.{closing-large, closing-number, closing-one, closing-many, closing-last}
+use Rattle.sleb128.proofs.ClosingRows.{closing-large, closing-number, closing-one, closing-many, closing-last}
 use Rattle.sleb128.proofs.Widths.{sound, allowed, one-too-many, pow-seven, half-seven}
 
 -- low bytes that say low, and a last one that says bits, make up the whole number at their sign

@@ -14,7 +14,7 @@ use Rattle.blocks.specs.GroupsAndTail.{TailAt}
 use Rattle.blocks.proofs.FromStart.{GroupHere, AtStart, the-end, a-tail, a-group, from-start, here-long, next-start, group-cut, tail-says, group-says}
 use Rattle.lists.specs.Strict.{joined, numbersOf, numbers}
 use Rattle.lists.specs.Inner.{ahead, StartsBefore, Behind}
-use Rattle.lists.proofs.Fronts.{numbers-tail}
+use Rattle.lists.proofs.NumbersInFront.{numbers-tail}
 
 -- what a group's step says, taken apart by its case
 said-number : (a : Answer (ℕ × ℕ)) (n p : ℕ) {v m q : ℕ} → number (unsigned v) m q ≡ says (valued unsigned a) n p → ((i : ℕ) × (a ≡ gives (v, i))) × (q ≡ p + n)

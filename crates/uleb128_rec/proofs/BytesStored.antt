@@ -7,8 +7,8 @@ use native.Mathlib.Omega.{arith}
 use lib.ListN.{length, set}
 use lib.Seq.{sets, sets-eq, set-comm}
 use Rattle.words.specs.declared.Written.the-variants.{Bytes}
-use Rattle.words.specs.Laying.{Lays}
-use Rattle.words.proofs.Laying.{fits-there}
+use Rattle.words.specs.Lays.{Lays}
+use Rattle.words.proofs.Lays.{fits-there}
 use Rattle.uleb128.specs.Unsigned.{form}
 use Rattle.uleb128_rec.specs.Inner.{WritesRest, Fits}
 use Rattle.uleb128.proofs.Forms.{form-small, form-large, form-some}

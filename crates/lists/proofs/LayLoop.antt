@@ -10,12 +10,12 @@ use Rattle.words.specs.declared.Count.{Count}
 use Rattle.words.specs.declared.Refusal.the-variants.{TooLong}
 use Rattle.words.specs.declared.Written.{Written}
 use Rattle.words.specs.declared.Written.the-variants.{Bytes, Refused}
-use Rattle.words.specs.Laying.{Lays}
-use Rattle.words.proofs.Laying.{fits-there, sets-append}
+use Rattle.words.specs.Lays.{Lays}
+use Rattle.words.proofs.Lays.{fits-there, sets-append}
 use Rattle.uleb128.specs.Unsigned.{form}
-use Rattle.lists.specs.Lists.{list-limit, forms}
+use Rattle.lists.specs.Lists.{forms, listLimit}
 use Rattle.lists.specs.Promise.{WritesList}
-use Rattle.lists.proofs.Totals.{forms-next, forms-end, length-next}
+use Rattle.lists.proofs.TotalLoop.{forms-next, forms-end, length-next}
 
 -- the forms of i numbers are laid down, up to the place to
 pub record LaidSoFar (ns s : List ℕ) (at : ℕ) (out : List ℕ) (to i : ℕ) : Type 0 where
@@ -53,8 +53,8 @@ module _ (ns s : List ℕ) (at : ℕ) (room : at + length (forms ns) ≤ length 
         ((rw z at (g .left)) ∙ sets-eq (forms ns) s at room)
 
 module _ (ns s : List ℕ) (at : ℕ) where
-  pub list-too-long : list-limit < length ns → WritesList ns s at (Refused TooLong) s
-  list-too-long h = let t = lt-ltb list-limit (length ns) h in record { answer = rw t; leaves = rw t }
+  pub list-too-long : listLimit < length ns → WritesList ns s at (Refused TooLong) s
+  list-too-long h = let t = lt-ltb listLimit (length ns) h in record { answer = rw t; leaves = rw t }
 
-  pub list-laid : {r : Written} {out : List ℕ} → length ns ≤ list-limit → Lays (forms ns) s at r out → WritesList ns s at r out
-  list-laid h l = let t = le-ltb list-limit (length ns) h in record { answer = rw t (l .answer); leaves = rw t (l .leaves) }
+  pub list-laid : {r : Written} {out : List ℕ} → length ns ≤ listLimit → Lays (forms ns) s at r out → WritesList ns s at r out
+  list-laid h l = let t = le-ltb listLimit (length ns) h in record { answer = rw t (l .answer); leaves = rw t (l .leaves) }

@@ -2,7 +2,7 @@
 --
 --   Sound w                 the most bytes are above 0, and only bytes below 128 are allowed there
 --   Closing s at ..         the bytes from the place at on close: what `Walked::Closed` says
---   told                    what each answer of `walk` says
+--   walk-tells                    what each answer of `walk` says
 --   past, open, .. reads-.. the answer of a reading from it
 use Prim.Native.Nat.{ℕ, _+_, _-_, _*_, _^_, _≤_, _<_}
 use mathlib.Core.Path.{_≡_, refl, sym, _∙_, subst}
@@ -19,7 +19,7 @@ use Rattle.groups.specs.Width.{Width, read}
 use Rattle.groups.specs.Promise.{walking, walked, Walks}
 use Rattle.groups.specs.declared.Walked.{Walked}
 use Rattle.groups.specs.declared.Walked.the-variants.{Past, Open, Long, Closed}
-use Rattle.groups.proofs.Run.{run-within, in-run, at-run, digits-take, digits-take-below, limit}
+use Rattle.groups.proofs.Run.{run-within, in-run, at-run, digits-take, digits-take-below, below-limit}
 use Rattle.groups.proofs.Rows.{row-end, row-large, row-many, row-number, read-from}
 
 pub record Sound {A : Type 0} (w : Width A) : Type 0 where
@@ -47,14 +47,14 @@ pub record Overrun (s : List ℕ) (at : ℕ) : Type 0 where
   pub here : at ≤ length s
   pub many : 10 ≤ run (drop at s)
 
-abbrev pub Told : List ℕ → ℕ → Walked → Type 0
-Told s at Past = length s < at
-Told s at (Open high) = Opening s at high
-Told s at Long = Overrun s at
-Told s at (Closed sum weight high last) = Closing s at sum weight high last
+abbrev pub WalkTells : List ℕ → ℕ → Walked → Type 0
+WalkTells s at Past = length s < at
+WalkTells s at (Open high) = Opening s at high
+WalkTells s at Long = Overrun s at
+WalkTells s at (Closed sum weight high last) = Closing s at sum weight high last
 
 module _ (s : List ℕ) (at : ℕ) where
-  told-from : at ≤ length s → Told s at (walked s at)
+  told-from : at ≤ length s → WalkTells s at (walked s at)
   unfolding walked walking
   told-from h =
       let l = drop at s in
@@ -70,12 +70,12 @@ module _ (s : List ℕ) (at : ℕ) where
       rw (le-ltb (length s) at h, lt-leb 10 (run l) few, eq-eqb (run l) (length l) e) (record { here = h; all = e; many = refl; few = few })))
       (λ many. rw (le-ltb (length s) at h, le-leb 10 (run l) many) (record { here = h; many = many }))
 
-  told-all : Told s at (walked s at)
+  told-all : WalkTells s at (walked s at)
   unfolding walked
   told-all = by-order (length s) at (λ p. rw (lt-ltb (length s) at p) p) told-from
 
-  pub told : {r r′ : Walked} → Walks s at r → r ≡ r′ → Told s at r′
-  told p e = subst (Told s at) (sym (p .is) ∙ e) told-all
+  pub walk-tells : {r r′ : Walked} → Walks s at r → r ≡ r′ → WalkTells s at r′
+  walk-tells p e = subst (WalkTells s at) (sym (p .is) ∙ e) told-all
 
 module _ {A : Type 0} (w : Width A) (sound : Sound w) (s : List ℕ) (at : ℕ) where
   -- as many high bytes as the width has bytes: the one at the greatest length is not allowed
@@ -123,4 +123,4 @@ module _ {s : List ℕ} {at sum weight high last : ℕ} (c : Closing s at sum we
   closed-below = omega (arith, digits-take-below (drop at s) high (omega (arith, c .ends)), c .sums, c .weighs)
 
   pub closed-limit : (k top : ℕ) → high ≤ k → (high ≡ k → last ≤ top) → sum + weight * last < 128 ^ k * (top + 1)
-  closed-limit = limit closed-below (c .weighs) (c .low)
+  closed-limit = below-limit closed-below (c .weighs) (c .low)

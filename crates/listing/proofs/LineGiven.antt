@@ -1,7 +1,7 @@
 -- What a listing's answer says of the text that is left.
 --
---   Took s g n g′ after   the first n bytes of the buffer are a line: behind it stands the rest of the text, and there the rank is lower
---   took                  what a line that was given is
+--   LineGiven s g n g′ after   the first n bytes of the buffer are a line: behind it stands the rest of the text, and there the rank is lower
+--   line-given                  what a line that was given is
 --   nothing-left          where none was given no text is left
 use Prim.Native.Nat.{ℕ, _≤_, _<_}
 use mathlib.Core.Path.{_≡_, ap, sym, _∙_}
@@ -12,15 +12,15 @@ use lib.ListN.{length, take, drop, length-append}
 use lib.Seq.{take-append-seam}
 use Rattle.words.specs.declared.Count.{Count}
 use Rattle.words.proofs.Cases.{by-order}
-use Rattle.listing.specs.Listing.{Stage, Coming, line, over, refuses, line-room, next}
+use Rattle.listing.specs.Listing.{Stage, Coming, line, over, refuses, next, lineRoom}
 use Rattle.listing.specs.Promise.{meansListing, meansNext, asked, counted, fronted, GivesLine}
 use Rattle.listing.specs.declared.Listing.{Listing}
 use Rattle.listing.specs.declared.Next.{Next}
 use Rattle.listing.specs.declared.Next.the-variants as X
 use Rattle.words.specs.Answer.{by}
-use Rattle.listing.proofs.Left.{Fine, left, rank, Left, none, more, coming}
+use Rattle.listing.proofs.TextLeft.{Fine, left, rank, Left, none, more, coming}
 
-pub record Took (s : List ℕ) (g : Stage) (n : ℕ) (g′ : Stage) (after : List ℕ) : Type 0 where
+pub record LineGiven (s : List ℕ) (g : Stage) (n : ℕ) (g′ : Stage) (after : List ℕ) : Type 0 where
   pub within : n ≤ length after
   pub fine : Fine s g′
   pub falls : rank s g′ < rank s g
@@ -28,7 +28,7 @@ pub record Took (s : List ℕ) (g : Stage) (n : ℕ) (g′ : Stage) (after : Lis
 
 module _ {s : List ℕ} {g : Stage} where
   line-took : {n : ℕ} {g′ : Stage} {after : List ℕ} (x : Coming (List ℕ)) (before : List ℕ)
-      → Left s g x → line n g′ ≡ counted x → after ≡ fronted x before → Took s g n g′ after
+      → Left s g x → line n g′ ≡ counted x → after ≡ fronted x before → LineGiven s g n g′ after
   line-took _ before (none e) a f = let z : _≡_ {A = ℕ} 0 1 = cc in absurd (omega arith)
   line-took {n} {g′} {after} _ before (more l g″ fine e falls) a f =
       let i : n ≡ length l = cc in
@@ -46,16 +46,16 @@ module _ {s : List ℕ} {g : Stage} where
   over-left _ (more l g″ fine e falls) a = let z : _≡_ {A = ℕ} 0 1 = cc in absurd (omega arith)
 
 module _ {s : List ℕ} {g : Listing} (fine : Fine s (meansListing g)) {before after : List ℕ} where
-  pub took : {r : Next} {n : Count} {g′ : Listing} → GivesLine g s before r after → r ≡ X.Line n g′ → Took s (meansListing g) (n .0) (meansListing g′) after
-  took {r} {n} {g′} e is =
+  pub line-given : {r : Next} {n : Count} {g′ : Listing} → GivesLine g s before r after → r ≡ X.Line n g′ → LineGiven s (meansListing g) (n .0) (meansListing g′) after
+  line-given {r} {n} {g′} e is =
       let answer : line (n .0) (meansListing g′) ≡ counted (asked s (meansListing g) (length before)) = ap meansNext (sym is) ∙ e .answer in
-      by-order (length before) line-room
+      by-order (length before) lineRoom
       (λ h.
-      let f : line (n .0) (meansListing g′) ≡ refuses (by 5) = rw (lt-ltb (length before) line-room h) at answer in
+      let f : line (n .0) (meansListing g′) ≡ refuses (by 5) = rw (lt-ltb (length before) lineRoom h) at answer in
       let z : _≡_ {A = ℕ} 0 1 = cc in absurd (omega arith))
       (λ h.
-      line-took (next s (meansListing g)) before (coming s (meansListing g) fine) (rw (le-ltb (length before) line-room h) at answer)
-      (rw (le-ltb (length before) line-room h) at (e .leaves)))
+      line-took (next s (meansListing g)) before (coming s (meansListing g) fine) (rw (le-ltb (length before) lineRoom h) at answer)
+      (rw (le-ltb (length before) lineRoom h) at (e .leaves)))
 
-  pub nothing-left : line-room ≤ length before → GivesLine g s before X.Ended after → left s (meansListing g) ≡ []
-  nothing-left h e = over-left (next s (meansListing g)) (coming s (meansListing g) fine) (rw (le-ltb (length before) line-room h) at (e .answer))
+  pub nothing-left : lineRoom ≤ length before → GivesLine g s before X.Ended after → left s (meansListing g) ≡ []
+  nothing-left h e = over-left (next s (meansListing g)) (coming s (meansListing g) fine) (rw (le-ltb (length before) lineRoom h) at (e .answer))
