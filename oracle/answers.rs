@@ -4,6 +4,7 @@
 
 use crate::blocks::{set_down, step, strict, write_list, Step};
 use crate::frames::{hex, Frame, Item};
+use crate::listing::listing;
 use crate::numbers::{length, power, read, write, Refusal, Rule};
 use std::cmp::Ordering;
 use Rule::*;
@@ -30,6 +31,7 @@ pub fn answer(item: &Item) -> String {
         15 => strict_line(frame),
         16 => list_line(frame),
         17 => turn_line(frame),
+        18 => listing_line(frame),
         _ => UNKNOWN.to_string(),
     }
 }
@@ -121,6 +123,11 @@ fn turn_line(frame: &Frame) -> String {
         Ordering::Equal => "hold",
     };
     turn.to_string()
+}
+
+/// The refusal of a block too long is a text too, the one that the listing program writes.
+fn listing_line(frame: &Frame) -> String {
+    format!("text {}", hex(listing(frame.bytes).as_bytes()))
 }
 
 /// The number that a frame's a stands for, if the width has it: signed in two's complement.

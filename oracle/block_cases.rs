@@ -1,11 +1,11 @@
-//! The cases for blocks, lists and turns: ops 12 to 17.
+//! The cases for blocks, lists, turns and listings: ops 12 to 18.
 //!
 //!   whole   those that the repository holds
 //!   more    those of the large run
 
 use crate::blocks::{starts, MOST};
 use crate::cases::{all_bytes, each_length, filler, numbers, FAR, SPREAD};
-use crate::frames::{put, put_list};
+use crate::frames::{put, put_list, MOST_BYTES};
 use crate::listing;
 use crate::numbers::{form, length, power, Rule};
 use crate::random::Random;
@@ -17,6 +17,7 @@ const SET_DOWN: u8 = 14;
 const STRICT: u8 = 15;
 const LIST: u8 = 16;
 const TURN: u8 = 17;
+const LISTING: u8 = 18;
 
 const STEPS: [u8; 2] = [STEP_UNSIGNED, STEP_SIGNED];
 const WITH_PLACE: [u8; 3] = [STEP_UNSIGNED, STEP_SIGNED, SET_DOWN];
@@ -25,11 +26,13 @@ pub fn whole(input: &mut Vec<u8>) {
     for byte in all_bytes() {
         at_places(input, &[byte], 0..=2);
         into_slices(input, &[byte], 0..=2);
+        listed(input, &[byte]);
     }
     for first in SPREAD {
         for second in SPREAD {
             at_places(input, &[first, second], 0..=3);
             into_slices(input, &[first, second], 0..=2);
+            listed(input, &[first, second]);
         }
     }
     runs(input);
@@ -42,8 +45,10 @@ pub fn whole(input: &mut Vec<u8>) {
     rooms(input);
     odd_frames(input);
     turns(input);
+    listings(input);
     limits(input);
     random_cases(input, 4, 2_000, 40);
+    random_listings(input, 8, 200, 40);
 }
 
 pub fn more(input: &mut Vec<u8>) {
@@ -57,6 +62,8 @@ pub fn more(input: &mut Vec<u8>) {
     long_lists(input);
     random_cases(input, 5, 100_000, 40);
     random_cases(input, 6, 100_000, 300);
+    long_listings(input);
+    random_listings(input, 9, 20_000, 300);
 }
 
 fn at_places(input: &mut Vec<u8>, block: &[u8], places: impl IntoIterator<Item = u64>) {
@@ -73,7 +80,12 @@ fn into_slices(input: &mut Vec<u8>, block: &[u8], sizes: impl IntoIterator<Item 
     }
 }
 
-/// Both rules from each start, and from the length, which is none behind a tail.
+fn listed(input: &mut Vec<u8>, block: &[u8]) {
+    put(input, LISTING, 0, 0, block);
+}
+
+/// Both rules from each start, and from the length, which is none behind a tail; and the listing,
+/// which has the unsigned ones in one text.
 fn stepped_through(input: &mut Vec<u8>, block: &[u8]) {
     let mut places = starts(block);
     places.push(block.len());
@@ -83,6 +95,7 @@ fn stepped_through(input: &mut Vec<u8>, block: &[u8]) {
             put(input, op, place as u64, 0, block);
         }
     }
+    listed(input, block);
 }
 
 // ---- steps and set-down
@@ -107,7 +120,7 @@ fn runs(input: &mut Vec<u8>) {
     }
 }
 
-/// The forms beside each value at which one grows, by both rules and strictly.
+/// The forms beside each value at which one grows, by both rules, strictly and listed.
 fn growth(input: &mut Vec<u8>) {
     for rule in [U64, I64] {
         for v in numbers(rule) {
@@ -116,6 +129,7 @@ fn growth(input: &mut Vec<u8>) {
                 put(input, op, 0, 0, &block);
             }
             put(input, STRICT, 1, 0, &block);
+            listed(input, &block);
         }
     }
 }
@@ -181,6 +195,7 @@ fn faults(input: &mut Vec<u8>) {
         for second in faults {
             let block = [&[0x05], first, &[0x80, 0x01], second].concat();
             into_slices(input, &block, [0, 2, 4]);
+            listed(input, &block);
         }
     }
 }
@@ -240,7 +255,7 @@ fn needed_by(list: &[u64]) -> u64 {
 
 /// Lists that the frame does not hold, also where 8 times their numbers is more than 64 bits hold
 /// and would seem to fit if it were cut to them; slices above the cap, with a block too long as
-/// well; fields that an op does not ask for.
+/// well; fields that an op does not ask for, and the listing asks for neither.
 fn odd_frames(input: &mut Vec<u8>) {
     for place in [0, FAR] {
         let wrapping = [1 << 61, (1 << 61) + 1, 1 << 63, FAR];
@@ -254,8 +269,11 @@ fn odd_frames(input: &mut Vec<u8>) {
         put(input, STRICT, size, 0, &[0x80, 0x01, 0x05]);
     }
     put(input, STRICT, 8_193, 0, &[5; MOST + 1]);
-    for op in [STEP_UNSIGNED, STEP_SIGNED, SET_DOWN, STRICT, TURN] {
+    for op in [STEP_UNSIGNED, STEP_SIGNED, SET_DOWN, STRICT, TURN, LISTING] {
         put(input, op, 1, FAR, &[0x05, 0x81, 0x01]);
+    }
+    for a in [3, 4, 8_193, FAR] {
+        put(input, LISTING, a, 1, &[0x05, 0x81, 0x01]);
     }
 }
 
@@ -270,13 +288,45 @@ fn turns(input: &mut Vec<u8>) {
     }
 }
 
+// ---- listings
+
+/// Groups and tails of each length up to longer than the most bytes, alone and between others. Then
+/// both sides of each power of ten, where the text of a number grows by a digit: as numbers, as
+/// lengths and as places.
+fn listings(input: &mut Vec<u8>) {
+    for count in 0..=12 {
+        for byte in [0x80, 0xff] {
+            for last in [&[][..], &[0x00], &[0x01], &[0x02], &[0x7f]] {
+                let part = [&vec![byte; count], last].concat();
+                listed(input, &part);
+                listed(input, &[&[0x05], &part[..], &[0x06]].concat());
+            }
+        }
+    }
+    let tens = (1..=19).map(|zeros| 10i128.pow(zeros));
+    let sides = tens.flat_map(|ten| [ten - 1, ten]);
+    let forms: Vec<u8> = sides.flat_map(|v| form(U64, v)).collect();
+    listed(input, &forms);
+    for count in [9, 10, 99, 100, 999, 1_000] {
+        listed(input, &tail(count));
+        listed(input, &[&group(count)[..], &[0x80, 0x00, 0x80]].concat());
+    }
+}
+
 // ---- limits
 
-/// Blocks of the most bytes and of one less. More of them, those of one more, and lists at their
-/// limit are among the answers written down by hand.
+fn tail(count: usize) -> Vec<u8> {
+    vec![0x80; count]
+}
+
+fn group(count: usize) -> Vec<u8> {
+    [tail(count - 1), vec![0x01]].concat()
+}
+
+/// Blocks of the most bytes and of one less; for the listing those of one more too. More of them,
+/// those of one more for the other ops, and lists at their limit are among the answers written down
+/// by hand.
 fn limits(input: &mut Vec<u8>) {
-    let tail = |count: usize| vec![0x80; count];
-    let group = |count: usize| [tail(count - 1), vec![0x01]].concat();
     for count in [MOST - 1, MOST] {
         put(input, STEP_UNSIGNED, 0, 0, &tail(count));
         put(input, STEP_SIGNED, 0, 0, &group(count));
@@ -284,6 +334,11 @@ fn limits(input: &mut Vec<u8>) {
     put(input, SET_DOWN, 1, 0, &group(MOST - 1));
     put(input, SET_DOWN, 1, 0, &tail(MOST));
     put(input, STRICT, 2, 0, &[5; MOST - 1]);
+    for count in MOST - 1..=MOST + 1 {
+        listed(input, &tail(count));
+        listed(input, &group(count));
+        listed(input, &listing::input("above").unwrap()[..count]);
+    }
 }
 
 /// Random blocks around the most bytes.
@@ -317,6 +372,25 @@ fn long_lists(input: &mut Vec<u8>) {
     }
     put_list(input, 0, &[5; 25_000], &[]);
     put_list(input, 0, &[], &filler(200_000));
+}
+
+/// Random blocks around the most bytes: of parts of every kind, of forms with one of them damaged,
+/// and of numbers of one byte, which have the longest text. Then blocks that are longer by far, two
+/// of which would seem short if their count were cut to 16 bits.
+fn long_listings(input: &mut Vec<u8>) {
+    let mut random = Random(10);
+    for count in MOST - 3..=MOST + 3 {
+        for _ in 0..10 {
+            listed(input, &random.block(count));
+            let forms = random.list_block(count);
+            listed(input, &random.damaged(forms));
+            let short: Vec<u8> = (0..count).map(|_| random.byte() % 128).collect();
+            listed(input, &short);
+        }
+    }
+    for count in [1 << 16, (1 << 16) + 17, MOST_BYTES as usize] {
+        listed(input, &filler(count));
+    }
 }
 
 // ---- random cases
@@ -361,14 +435,19 @@ impl Random {
         put(input, SET_DOWN, place, 0, &block);
     }
 
-    fn strict_case(&mut self, input: &mut Vec<u8>, longest: usize) {
+    /// Mostly a block of forms alone, at times with one of them damaged, at times one of all kinds.
+    fn mostly_forms(&mut self, longest: usize) -> Vec<u8> {
         let most = self.below(longest + 1);
-        let mut block = self.list_block(most);
+        let block = self.list_block(most);
         match self.below(4) {
-            0 => block = self.block_up_to(longest),
-            1 if !block.is_empty() => block = self.damaged(block),
-            _ => {}
+            0 => self.block_up_to(longest),
+            1 if !block.is_empty() => self.damaged(block),
+            _ => block,
         }
+    }
+
+    fn strict_case(&mut self, input: &mut Vec<u8>, longest: usize) {
+        let block = self.mostly_forms(longest);
         let size = (groups(&block) + self.below(3)).saturating_sub(self.below(3));
         put(input, STRICT, size as u64, 0, &block);
     }
@@ -405,5 +484,17 @@ fn random_cases(input: &mut Vec<u8>, seed: u64, count: usize, longest: usize) {
             13 | 14 => random.list_case(input, longest),
             _ => put(input, TURN, random.number(I64) as u64, 0, &[]),
         }
+    }
+}
+
+/// Random listings from a seed, of blocks of no more than so many bytes.
+fn random_listings(input: &mut Vec<u8>, seed: u64, count: usize, longest: usize) {
+    let mut random = Random(seed);
+    for _ in 0..count {
+        let block = match random.below(2) {
+            0 => random.block_up_to(longest),
+            _ => random.mostly_forms(longest),
+        };
+        listed(input, &block);
     }
 }

@@ -2,7 +2,7 @@
 //! after those for numbers, here, those for blocks and lists from block_cases.rs.
 //!
 //!   committed   the cases that the repository holds
-//!   large       these, all pairs of bytes, long frames and blocks, and 1,200,000 random cases more
+//!   large       these, all pairs of bytes, long frames and blocks, and 1,220,000 random cases more
 //!
 //! Nothing here says what an answer should be. The same bytes come out on every machine.
 
@@ -230,7 +230,7 @@ fn rooms(input: &mut Vec<u8>) {
 /// Ops that the table does not have, numbers that 32 bits do not hold, and fields that an op does
 /// not ask for.
 fn odd_frames(input: &mut Vec<u8>) {
-    for op in [0, 18, 19, 100, 127, 128, 254, 255] {
+    for op in [0, 34, 100, 127, 128, 254, 255] {
         put(input, op, 0, 0, &[]);
         put(input, op, 1, FAR, &[0x80, 0x01, 0xff]);
     }

@@ -1,26 +1,23 @@
 -- A signed number of 64 bits as the machine holds it, and its size, which is the number without its sign.
---   never        false is not true
+--
 --   back v       what the machine reads back from the bits of v
 --   Cast z       what the machine reads as z is cast to an unsigned number of 64 bits
 --   plain        a number that is not below zero is cast
 --   Turned v z   z is cast, and one more is the size of v
 --   turned       so are the bits of a number below zero, each turned over
 --   twice        bits turned over twice are the bits
--- Assumes nothing.
-use mathlib.Core.Path.{_≡_, sym, subst}
-use mathlib.Core.Bool.{true, false}
 use Prim.Native.Nat.{ℕ, suc, _+_, _-_, _<_, _^_}
+use mathlib.Core.Path.{_≡_, refl}
+use mathlib.Core.Bool.{true, false}
 use native.Mathlib.Omega.{arith}
-use lib.IntN.{ℤ, pos, negsuc, natAbs}
-use lib.Dec.{T}
-use lib.Signed.{ltZ, nonNeg}
+use borrow.Author.Tests.{ltb-true}
 use mir.Syntax.{w64}
 use mir.Val.{Fits, SFits, toZ, ofZ}
 use mir.ValLaws.{toZ-ofZ, toZ-pos}
-use borrow.Author.Tests.{ltb-true}
-
-pub never : {X : Type 0} → false ≡ true → X
-never e = absurd (subst T (sym e) tt)
+use lib.IntN.{ℤ, pos, negsuc, natAbs}
+use lib.Dec.{T}
+use lib.Signed.{ltZ, nonNeg}
+use Rattle.words.proofs.Cases.{clash}
 
 abbrev pub back : ℤ → ℤ
 back v = toZ w64 (ofZ w64 v)
@@ -30,7 +27,7 @@ Cast z = T (nonNeg z) × Fits w64 (natAbs z)
 
 plain′ : (v : ℤ) → SFits w64 v → ltZ v (pos 0) ≡ false → Cast v
 plain′ (pos n) f h = (tt, record { fits = omega (arith, f .sfits) })
-plain′ (negsuc k) f h = never (sym h)
+plain′ (negsuc k) f h = clash h refl
 
 pub plain : (v : ℤ) → SFits w64 v → ltZ (back v) (pos 0) ≡ false → Cast (back v)
 plain v f h = rw (toZ-ofZ w64 v f) (plain′ v f (rw (toZ-ofZ w64 v f) at h))

@@ -2,112 +2,82 @@
 //
 // A frame has an op of one byte, the numbers a and b of eight and n of four, low byte first, and then n bytes.
 use libc::STDIN_FILENO;
-ghost use Prim.Native.Nat.{_≤_};
-ghost use mathlib.Core.Path.{_≡_};
+ghost use Prim.Native.Nat.{_+_, _≤_};
 ghost use lib.ListN.{length};
-ghost use Rattle.answers.specs.Frames.{little};
+ghost use Rattle.answers.specs.Frames.{Within};
 
 // The bytes of a frame before its n bytes.
 const HEADER: usize = 21;
 
-// What comes next, a frame or not. A whole frame's n bytes stand at the front of the buffer that it was read into.
+// The most bytes that a frame has behind those.
+pub(crate) const MOST_BYTES: usize = 200000;
+
 pub(crate) struct Frame {
-    pub(crate) comes: usize,
     pub(crate) op: u8,
     pub(crate) a: u64,
     pub(crate) b: u64,
     pub(crate) n: usize,
 }
 
-// The end of the input; a frame that is cut short, or whose n is too large; a whole frame.
-const END: usize = 0;
-
-pub(crate) const CUT: usize = 1;
-
-pub(crate) const WHOLE: usize = 2;
-
-fn no_frame(comes: usize) -> Frame
-    ensures { λ r. ⌜ r .n ≡ 0 ⌝ }
-{
-    Frame {
-        comes,
-        op: 0,
-        a: 0,
-        b: 0,
-        n: 0,
-    }
+// What comes next: the end of the input; a frame that is cut short, or whose n is too large; or a whole frame, whose n bytes
+// stand at the front of the buffer that it was read into.
+pub(crate) enum Coming {
+    End,
+    Cut,
+    Whole(Frame),
 }
 
-fn wide(b: u8) -> u64
-    ensures { λ r. ⌜ r ≡ b ⌝ }
-{
+fn wide(b: u8) -> u64 {
     b as u64
 }
 
-// The number whose bytes these are, low byte first.
-fn number(bytes: &[u8]) -> u64
-    requires { ⌜ length (now bytes) ≤ 8 ⌝ }
-    ensures { λ r. ⌜ r ≡ little (now (bytes .entry)) ⌝ }
+// The number whose four bytes stand at a place, low byte first.
+fn four(bytes: &[u8], at: usize) -> u64
+    requires { ⌜ at + 4 ≤ length (now bytes) ⌝ }
 {
-    let mut sum: u64 = 0;
-    let mut i = bytes.len();
-    while 0 < i {
-        i -= 1;
-        let b = bytes[i];
-        let high = sum * 256;
-        sum = high + wide(b);
-    }
-    sum
+    wide(bytes[at])
+        | wide(bytes[at + 1]) << 8
+        | wide(bytes[at + 2]) << 16
+        | wide(bytes[at + 3]) << 24
 }
 
-// The number whose eight bytes stand at a place, or 0 where they do not.
-pub(crate) fn eight(bytes: &[u8], from: usize) -> u64 {
-    if bytes.len() < 8 {
-        return 0;
-    }
-    let last = bytes.len() - 8;
-    if last < from {
-        return 0;
-    }
-    let till = from + 8;
-    number(&bytes[from..till])
+// The number whose eight bytes stand there.
+pub(crate) fn eight(bytes: &[u8], at: usize) -> u64
+    requires { ⌜ at + 8 ≤ length (now bytes) ⌝ }
+{
+    four(bytes, at) | four(bytes, at + 4) << 32
 }
 
-fn header(bytes: &[u8; 25]) -> Frame {
+// The frame that begins with these bytes.
+fn header(bytes: &[u8; HEADER]) -> Frame {
     Frame {
-        comes: WHOLE,
         op: bytes[0],
         a: eight(bytes, 1),
         b: eight(bytes, 9),
-        n: eight(bytes, 17) as usize,
+        n: four(bytes, 17) as usize,
     }
-}
-
-// Behind the bytes of a header stand four zeros, so that n too is read as a number of eight.
-fn next_header() -> Frame {
-    let mut bytes = [0u8; 25];
-    let got = io::read_full(STDIN_FILENO, &mut bytes[0..21]);
-    if got < 1 {
-        return no_frame(END);
-    }
-    if got < HEADER {
-        return no_frame(CUT);
-    }
-    header(&bytes)
 }
 
 // The next frame. Its n is too large for a buffer that it does not fit.
-pub(crate) fn next_frame(buffer: &mut [u8]) -> Frame
-    ensures { λ r. ⌜ r .n ≤ length (now (buffer .exit)) ⌝ }
+pub(crate) fn next_frame(buffer: &mut [u8]) -> Coming
+    ensures { λ r. ⌜ Within r (length (now (buffer .exit))) ⌝ }
 {
-    let frame = next_header();
+    let mut bytes = [0u8; HEADER];
+    let got = io::read_full(STDIN_FILENO, &mut bytes);
+    if got < 1 {
+        return Coming::End;
+    }
+    if got < HEADER {
+        return Coming::Cut;
+    }
+    let frame = header(&bytes);
     let n = frame.n;
     if buffer.len() < n {
-        return no_frame(CUT);
+        return Coming::Cut;
     }
     let got = io::read_full(STDIN_FILENO, &mut buffer[0..n]);
     if got < n {
-        return no_frame(CUT);
+        return Coming::Cut;
     }
-    frame
+    Coming::Whole(frame)
 }

@@ -1,4 +1,4 @@
-// Bytes in hexadecimal.
+// Bytes in hexadecimal, laid down in a lent buffer: two digits for each.
 use texts::word;
 use words::Place;
 
@@ -8,9 +8,9 @@ fn digits(b: u8, out: &mut [u8], at: Place) -> Place {
     word(&digits[..count], out, at)
 }
 
-fn each(bytes: &[u8], from: usize, out: &mut [u8], at: Place) -> Place {
+pub(crate) fn hex(bytes: &[u8], out: &mut [u8], at: Place) -> Place {
     let mut next = at;
-    let mut i = from;
+    let mut i = 0;
     while i < bytes.len() {
         let b = bytes[i];
         next = digits(b, out, next);
@@ -19,10 +19,11 @@ fn each(bytes: &[u8], from: usize, out: &mut [u8], at: Place) -> Place {
     next
 }
 
-// The bytes from a place on, two digits for each, or `-` if there are none.
-pub(crate) fn hex(bytes: &[u8], from: usize, out: &mut [u8], at: Place) -> Place {
-    if bytes.len() <= from {
+// The bytes from a place on, or `-` if there are none.
+pub(crate) fn behind(bytes: &[u8], from: Place, out: &mut [u8], at: Place) -> Place {
+    let first = from.0;
+    if bytes.len() <= first {
         return word(b"-", out, at);
     }
-    each(bytes, from, out, at)
+    hex(&bytes[first..], out, at)
 }

@@ -1,137 +1,88 @@
-// Lines: what the desk answered, as a value, and how it is laid down in a lent buffer. What is laid down begins at a place,
-// and the place behind it is answered.
+// A line: put together of a name and numbers, and then laid down in a lent buffer.
+use crate::numbers;
+use blocks::Cursor;
+use blocks::Value;
 use texts::decimal;
-use texts::word;
+use words::Count;
 use words::Place;
 use words::Refusal;
-use words::Written;
-ghost use Prim.Native.Nat.{_≤_};
 
-// A line: its name, and so many of the three numbers, a space between them.
+// Room for a name and five numbers of 64 bits.
+const ROOM: usize = 128;
+
+// The first bytes of the text, up to the end.
 pub(crate) struct Line {
-    name: usize,
-    count: usize,
-    first: u64,
-    second: u64,
-    third: u64,
-    // Behind the numbers stand the bytes that a write was asked to write into.
-    pub(crate) writes: bool,
+    text: [u8; ROOM],
+    end: usize,
 }
 
-// The names. One that a number follows ends in a space; a number below zero has a name of its own, which ends in its sign.
-pub(crate) const UNKNOWN: usize = 0;
-
-pub(crate) const NUMBER: usize = 1;
-
-pub(crate) const BELOW_ZERO: usize = 2;
-
-const REFUSED: usize = 3;
-
-pub(crate) const COUNT: usize = 4;
-
-pub(crate) const GAP: usize = 5;
-
-pub(crate) const TAIL: usize = 6;
-
-pub(crate) const FINISHED: usize = 7;
-
-pub(crate) const START: usize = 8;
-
-pub(crate) const TIGHTEN: usize = 9;
-
-pub(crate) const LOOSEN: usize = 10;
-
-pub(crate) const HOLD: usize = 11;
-
-// Nine letters for each name, of which it has so many.
-const LETTERS: [u8; 108] =
-    *b"unknown  number   number - refused  count    gap      tail     finished start    tighten  loosen   hold     ";
-
-const COUNTS: [usize; 12] = [7, 7, 8, 8, 6, 4, 5, 9, 6, 7, 6, 4];
-
-// A part of the letters.
-struct Part {
-    from: usize,
-    till: usize,
+// A line that has a name, and no numbers yet.
+pub(crate) fn says(name: &[u8]) -> Line {
+    let nothing = Line {
+        text: [0u8; ROOM],
+        end: 0,
+    };
+    nothing.word(name)
 }
 
-pub(crate) fn says(name: usize, count: usize, first: u64, second: u64, third: u64) -> Line {
-    Line {
-        name,
-        count,
-        first,
-        second,
-        third,
-        writes: false,
+// Lays the first bytes of a text down, up to the end.
+fn front(text: &[u8], end: usize, out: &mut [u8], at: Place) -> Place {
+    if text.len() < end {
+        return at;
     }
+    texts::word(&text[0..end], out, at)
 }
 
-pub(crate) fn refused(refusal: Refusal) -> Line {
-    let number = words::number(refusal);
-    says(REFUSED, 1, number as u64, 0, 0)
-}
+// Each adds to the line and hands it back: a number in decimal, with a space before it.
+impl Line {
+    pub(crate) fn word(self, letters: &[u8]) -> Line {
+        let mut text = self.text;
+        let end = texts::word(letters, &mut text, Place(self.end));
+        Line { text, end: end.0 }
+    }
 
-fn wrote(name: usize, first: u64) -> Line {
-    Line {
-        name,
-        count: 1,
-        first,
-        second: 0,
-        third: 0,
-        writes: true,
+    fn digits(self, v: u64) -> Line {
+        let mut text = self.text;
+        let end = decimal(v, &mut text, Place(self.end));
+        Line { text, end: end.0 }
     }
-}
 
-pub(crate) fn written(answer: Written) -> Line {
-    match answer {
-        Written::Bytes(count) => wrote(COUNT, count.0 as u64),
-        Written::Refused(refusal) => wrote(REFUSED, words::number(refusal) as u64),
+    pub(crate) fn number(self, v: u64) -> Line {
+        self.word(b" ").digits(v)
     }
-}
 
-// Where a name's letters stand.
-fn part_of(name: usize) -> Part
-    ensures { λ r. ⌜ (r .from ≤ r .till) × (r .till ≤ 108) ⌝ }
-{
-    if 11 < name {
-        return Part { from: 0, till: 0 };
+    pub(crate) fn signed(self, v: i64) -> Line {
+        if v < 0 {
+            return self.word(b" -").digits(numbers::size(v));
+        }
+        self.number(numbers::size(v))
     }
-    let from = name * 9;
-    let count = COUNTS[name];
-    if 9 < count {
-        return Part { from: 0, till: 0 };
-    }
-    let till = from + count;
-    Part { from, till }
-}
 
-fn named(name: usize, out: &mut [u8]) -> Place {
-    let letters = LETTERS;
-    let part = part_of(name);
-    let from = part.from;
-    let till = part.till;
-    word(&letters[from..till], out, Place(0))
-}
+    pub(crate) fn value(self, value: Value) -> Line {
+        match value {
+            Value::Unsigned(v) => self.number(v),
+            Value::Signed(v) => self.signed(v),
+        }
+    }
 
-// A number with a space before it.
-pub(crate) fn spaced(v: u64, out: &mut [u8], at: Place) -> Place {
-    let next = word(b" ", out, at);
-    decimal(v, out, next)
-}
+    pub(crate) fn count(self, count: Count) -> Line {
+        self.number(count.0 as u64)
+    }
 
-// At the front of the buffer.
-pub(crate) fn lay(line: Line, out: &mut [u8]) -> Place {
-    let named = named(line.name, out);
-    if line.count < 1 {
-        return named;
+    // A refusal's number.
+    pub(crate) fn refusal(self, refusal: Refusal) -> Line {
+        self.number(words::number(refusal) as u64)
     }
-    let first = decimal(line.first, out, named);
-    if line.count < 2 {
-        return first;
+
+    // A cursor's place.
+    pub(crate) fn cursor(self, cursor: Cursor) -> Line {
+        let place = cursor.place;
+        self.number(place.0 as u64)
     }
-    let second = spaced(line.second, out, first);
-    if line.count < 3 {
-        return second;
+
+    // Lays the line down at a place, and answers the place behind it.
+    pub(crate) fn lay(self, out: &mut [u8], at: Place) -> Place {
+        let text = self.text;
+        front(&text, self.end, out, at)
     }
-    spaced(line.third, out, second)
 }

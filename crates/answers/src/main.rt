@@ -1,22 +1,24 @@
 // Reads frames from standard input until it ends, and writes a line for each: what the desk answers to it.
-mod block_ops;
 mod frames;
 mod hex;
 mod lines;
-mod list_ops;
+mod listings;
+mod numbers;
 mod ops;
-mod signs;
+mod said;
+mod slices;
+mod writes;
 
+use frames::Coming;
+use frames::MOST_BYTES;
 use libc::STDOUT_FILENO;
 use texts::word;
 use words::Place;
 
-// The largest n of a frame.
-const INPUT: usize = 200000;
-
 // The longest line has 400,011 bytes.
 const OUTPUT: usize = 409600;
 
+// Writes the line that ends at the place, with its newline, and says whether that could be done.
 fn write_line(output: &mut [u8], end: Place) -> bool {
     let behind = word(b"\n", output, end);
     let till = behind.0;
@@ -26,31 +28,27 @@ fn write_line(output: &mut [u8], end: Place) -> bool {
     io::write_all(STDOUT_FILENO, &output[0..till])
 }
 
-// What is left to say where no frame comes.
-fn stop(comes: usize) -> bool {
-    if comes < frames::CUT {
-        return false;
-    }
-    io::write_all(STDOUT_FILENO, b"cut\n");
-    false
-}
-
 // Answers the next frame, and says whether to go on: a frame came, and its line could be written.
 fn answer_next(input: &mut [u8], output: &mut [u8]) -> bool {
-    let frame = frames::next_frame(input);
-    if frame.comes < frames::WHOLE {
-        return stop(frame.comes);
+    match frames::next_frame(input) {
+        Coming::End => false,
+        Coming::Cut => {
+            io::write_all(STDOUT_FILENO, b"cut\n");
+            false
+        }
+        Coming::Whole(frame) => {
+            let n = frame.n;
+            let end = ops::answer(frame, &mut input[0..n], output);
+            write_line(output, end)
+        }
     }
-    let n = frame.n;
-    let end = ops::answer(frame.op, frame.a, frame.b, &mut input[0..n], output);
-    write_line(output, end)
 }
 
 // A proved loop has to end, and nothing says that the input does. So the loop counts down the frames that it may still
 // answer, from 2^64 - 1: no input has so many.
 //
 // It takes the arrays whole: to lend one as a slice where it is made costs the check a step for each of its bytes.
-fn answer_all(input: &mut [u8; INPUT], output: &mut [u8; OUTPUT]) {
+fn answer_all(input: &mut [u8; MOST_BYTES], output: &mut [u8; OUTPUT]) {
     let mut left = u64::MAX;
     while 0 < left {
         left -= 1;
@@ -61,7 +59,7 @@ fn answer_all(input: &mut [u8; INPUT], output: &mut [u8; OUTPUT]) {
 }
 
 fn main() {
-    let mut input = [0u8; INPUT];
+    let mut input = [0u8; MOST_BYTES];
     let mut output = [0u8; OUTPUT];
     answer_all(&mut input, &mut output);
 }

@@ -1,13 +1,18 @@
 -- Laws of `cut`: how a block is cut at its front, and where a part of it ends.
 --
---   cut-low, cut-high     the two equations of `cut`
---   cut-group, cut-tail   a group stands in front, or none does
---   cut-append            the groups of a part, and those that what follows it makes with its tail
---   total, all-bytes      the groups and the tail are all the bytes
---   some-each             every group has some byte
---   longer                a group that takes up a part's tail is longer than it
---   tail-run              the bytes of 128 or more behind a part go on those of its tail
---   nothing-left          behind a tail there is nothing
+--   cut-low, cut-high   a first byte below 128 is a group of its own; another goes to the front of the first group, or of the tail
+--   grouped g c         the group g in front of the cut c
+--   cut-group           the bytes through the first below 128 are a group in front of what the bytes behind them are cut into
+--   cut-tail            a block without a byte below 128 has no group, and is all tail
+--   cut-append          the groups of a block are those of a part in front, and those that the part's tail makes with what follows
+--   total gs            how many bytes the groups gs have
+--   all-bytes           the groups and the tail of a block have as many bytes as the block
+--   Longer n gs         the first of the groups gs, if there is one, has more than n bytes
+--   Some gs             each of the groups gs has some byte
+--   some-each           each group of a block has some byte
+--   longer-than-tail    the first group that a part's tail makes with what follows, if it makes one, is longer than the tail
+--   tail-run            the run of a part's tail and what follows it is all of the tail and then the run of what follows
+--   drop-all            past a run that goes to the end of the bytes nothing is left
 use Prim.Native.Nat.{ℕ, suc, _+_, _≤_, _<_}
 use mathlib.Core.Path.{_≡_, refl, ap, sym, _∙_}
 use mathlib.Core.List.{List, [], _∷_, _++_}
@@ -125,12 +130,12 @@ first [] k = tt
 first (g ∷ gs) k = k .0
 
 -- a group that takes up the tail is longer than it
-pub longer : (a z : List ℕ) → Longer (length (cut a .tail)) (cut (cut a .tail ++ z) .groups)
+pub longer-than-tail : (a z : List ℕ) → Longer (length (cut a .tail)) (cut (cut a .tail ++ z) .groups)
 unfolding cut
-longer [] z = first (cut z .groups) (some-each z)
-longer (b ∷ a) z =
-    by-order b 128 (λ low. rw (cut-low b a low) (longer a z))
-    (λ high. rw (cut-high b a high) (go high (cut a .groups) (cut a .tail) (longer a z)))
+longer-than-tail [] z = first (cut z .groups) (some-each z)
+longer-than-tail (b ∷ a) z =
+    by-order b 128 (λ low. rw (cut-low b a low) (longer-than-tail a z))
+    (λ high. rw (cut-high b a high) (go high (cut a .groups) (cut a .tail) (longer-than-tail a z)))
   where
     go : 128 ≤ b → (gs : List (List ℕ)) (t : List ℕ) → Longer (length t) (cut (t ++ z) .groups)
         → Longer (length (infront b gs t .tail)) (cut (infront b gs t .tail ++ z) .groups)
@@ -150,7 +155,7 @@ tail-run (x ∷ a) b =
     go high [] t h = run-high x (t ++ b) high ∙ omega (arith, h)
     go high (g ∷ gs) t h = h
 
-pub nothing-left : (b : List ℕ) → length b ≤ run b → drop (run b + 1) b ≡ []
-nothing-left b h =
+pub drop-all : (b : List ℕ) → length b ≤ run b → drop (run b + 1) b ≡ []
+drop-all b h =
     let all : run b ≡ length b = omega (arith, run-within b) in
     sym (drop-drop 1 (run b) b) ∙ ap (drop 1) (ap (λ (i : ℕ). drop i b) all ∙ drop-length b)

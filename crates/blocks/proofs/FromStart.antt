@@ -1,15 +1,15 @@
--- What stands at a start: the end, a tail, or a group with a start behind it; how the block is cut from there on, and what a step says there.
+-- What stands at a start: the end, a tail, or a group with a start behind it; how the block is cut there, and what a step says there.
 --
---   front-start              place 0 is a start
---   start-true, true-start   the test for a start holds exactly at starts
---   GroupHere s p g          g is the bytes of s from the place p through the first below 128
---   AtStart s p              what stands at p: `the-end`, `a-tail` or `a-group`
---   from-start               one of them stands at every start
---   here-long, here-within   the group's length, and that it lies within the block
---   next-start               behind the group stands a start
---   group-here, here-group   a group that stands there is these bytes, and in a block of bytes they are a group
+--   front-start                       place 0 is a start
+--   start-true, true-start            up to the end of the block, the test for a start holds exactly at starts
+--   GroupHere s p g                   g is the bytes of s from the place p through the first below 128
+--   AtStart s p                       what stands at p: `the-end`, `a-tail` or `a-group`
+--   from-start                        one of them stands at every start
 --   end-cut, tail-cut, group-cut      how the block is cut from there on
 --   end-says, tail-says, group-says   what a step says there
+--   here-long, here-within            the group's length, and that it lies within the block
+--   next-start                        behind the group stands a start
+--   here-group, group-here            at a start of a block of bytes they are a group; and a group that stands there is these bytes
 use Prim.Native.Nat.{ℕ, _+_, _-_, _≤_, _<_}
 use mathlib.Core.Path.{_≡_, refl, ap, sym, _∙_}
 use mathlib.Core.List.{List, [], _++_}
@@ -23,7 +23,7 @@ use Rattle.words.specs.declared.Count.{Count}
 use Rattle.words.proofs.Cases.{by-order}
 use Rattle.groups.specs.Group.{Bytes, run}
 use Rattle.groups.proofs.Exact.{group-length}
-use Rattle.groups.proofs.Run.{at-run, all-high, high-all}
+use Rattle.groups.proofs.Run.{at-run, high-full, full-high}
 use Rattle.groups.proofs.Stands.{front-group, run-behind}
 use Rattle.blocks.specs.Block.{isStart, tail, finished, saysBy, stepping, blockLimit}
 use Rattle.blocks.specs.GroupsAndTail.{Start, GroupAt, TailAt, cut}
@@ -64,7 +64,7 @@ from-start {s} {p} k =
     (λ some.
     by-order (run (drop p s)) (length (drop p s))
     (λ c. a-group (take (run (drop p s) + 1) (drop p s)) (record { closes = c; is = refl }))
-    (λ c. a-tail (record { start = k; some = some; high = high-all (drop p s) c })))
+    (λ c. a-tail (record { start = k; some = some; high = full-high (drop p s) c })))
     (λ l. the-end (omega (arith, k .here)))
 
 abbrev cursor : ℕ → Cursor
@@ -80,7 +80,7 @@ module _ (s : List ℕ) (p : ℕ) (e : p ≡ length s) where
 
 module _ {s : List ℕ} {p : ℕ} (k : TailAt s p) where
   all-tail : run (drop p s) ≡ length (drop p s)
-  all-tail = all-high (drop p s) (k .high)
+  all-tail = high-full (drop p s) (k .high)
 
   pub tail-cut : cut (drop p s) ≡ record { groups = []; tail = drop p s }
   tail-cut = cut-tail (drop p s) all-tail

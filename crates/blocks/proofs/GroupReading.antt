@@ -1,8 +1,8 @@
 -- What a reader of numbers says at a group's place is the reading of the group alone.
 --
---   valued-as        a reader's answer r, which was matched as q, said as a reading
---   read-alone  by any rule, reading at the place is reading the group
---   said-number, said-gap   what a step says of a group, by its reading
+--   valued-as               where an answer r means a, and r is q, then a and what q means are one reading by a rule
+--   read-alone              by any rule, reading at a group's place is reading the group alone
+--   said-number, said-gap   what a step says of a group by its reading: the number or a gap, the count of bytes, and the place past it
 use Prim.Native.Nat.{ℕ, _+_, _<_}
 use mathlib.Core.Path.{_≡_, ap, sym, _∙_}
 use mathlib.Core.List.{List}

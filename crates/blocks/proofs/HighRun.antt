@@ -1,4 +1,11 @@
--- What the scan for the end of a group holds, and what the tests of a step and of a set-down come to.
+-- Bytes of 128 or more passed one after another: what the loop holds and finds; and what the test for a start comes to.
+--
+--   Passing s at place high        high bytes were passed from at up to the place, each of them 128 or more
+--   none-passed                    at first, none
+--   one-passed                     a byte of 128 or more at the place is one more
+--   low-found, end-found           at a byte below 128, and at the end of the block, high is the length of the run from at on
+--   front-is-start, low-is-start   the test for a start: true at place 0, behind it whether the byte before is below 128
+--   run-inside                     from a place of the block, a run ends within the block
 use Prim.Native.Nat.{ℕ, _+_, _-_, _≤_, _<_}
 use mathlib.Core.Path.{_≡_, sym}
 use mathlib.Core.List.{List}
@@ -46,6 +53,5 @@ module _ (s : List ℕ) (p : ℕ) where
   unfolding isStart
   low-is-start h = rw (ne-eqb p 0 (λ e. omega arith))
 
--- a run stays within the block
-pub within : (s : List ℕ) (p : ℕ) → p ≤ length s → p + run (drop p s) ≤ length s
-within s p h = omega (arith, run-within (drop p s), length-drop p s)
+pub run-inside : (s : List ℕ) (p : ℕ) → p ≤ length s → p + run (drop p s) ≤ length s
+run-inside s p h = omega (arith, run-within (drop p s), length-drop p s)

@@ -1,10 +1,10 @@
 -- Why damage stays local.
 --
---   Local P reach     a predicate on a block, a place and bytes there: whether it holds of what ends `reach` bytes before a cut does not
---                     depend on what follows the cut, and of what begins behind a cut's first byte not on what precedes the cut
---   ends-before       what is local stands before a stretch as it stood, whatever the stretch is replaced by,
---   begins-behind     and behind it, moved only by the change in length
---   groups-local      groups are local with reach 0
+--   Local P reach   a predicate on a block, a place and bytes there: whether it holds of what ends `reach` bytes before a cut, or earlier, does
+--                   not depend on what follows the cut; and of what begins a byte or more behind a cut, not on what precedes it
+--   ends-before     what is local stands before a stretch as it stood, whatever the stretch is replaced by,
+--   begins-behind   and behind the first byte past it, moved only by the change in length
+--   groups-local    groups are local with reach 0
 use Prim.Native.Nat.{ℕ, _+_, _-_, _≤_, _<_}
 use mathlib.Core.Path.{_≡_, ap, sym, _∙_, subst}
 use mathlib.Core.List.{List, _++_, append-assoc}

@@ -4,7 +4,9 @@
 use Prim.Native.Nat.{ℕ}
 use mathlib.Core.Path.{_≡_, refl, ap}
 use native.Mathlib.Omega.{arith}
+use Rattle.words.specs.Answer.{numberIn}
 use Rattle.words.proofs.OneNumber.{refusalOf, refusal-back}
+use Rattle.words.proofs.OneMeaning.{same-by, back}
 use Rattle.blocks.specs.Block.{Val, unsigned, signed, Stepped, number, gap, tail, finished, refuses}
 use Rattle.blocks.specs.Promise.{meansValue, meansStep, meansSetDown}
 use Rattle.blocks.specs.declared.Step.{Step}
@@ -13,8 +15,6 @@ use Rattle.blocks.specs.declared.Value.{Value}
 use Rattle.blocks.specs.declared.Value.the-variants as N
 use Rattle.blocks.specs.declared.SetDown.{SetDown}
 use Rattle.blocks.specs.declared.SetDown.the-variants as D
-use Rattle.words.specs.Answer.{numberIn}
-use Rattle.words.proofs.OneMeaning.{same-by, back}
 
 pub same-step : (r r′ : Step) → meansStep r ≡ meansStep r′ → r ≡ r′
 same-step = same-by meansStep back is

@@ -1,9 +1,10 @@
 -- The groups of a block as a list: those that end within a part of it, and those that begin at a place or later.
 --
---   ends-within     what ends within a part is the groups of the part
---   begins-from     what begins behind a part, at n or later, stands behind the first byte below 128 of what follows the part
---   from-placed      what begins at a start or later is the groups from there on
---   less-placed        places less n
+--   ends-within   of the groups of a block, those that end within a part in front are the groups of the part
+--   from-early    where the first group is placed at n or later, all begin at n or later
+--   less-placed   groups placed from n + p on, their places less n, are placed from p on
+--   begins-from   what begins at n or later, for n behind a part and at most just past the next byte below 128, is the groups behind that byte
+--   from-placed   what begins at a start or later is the groups from there on
 use Prim.Native.Nat.{ℕ, _+_, _-_, _≤_, _<_}
 use mathlib.Core.Path.{_≡_, refl, ap, sym, _∙_}
 use mathlib.Core.List.{List, [], _∷_, _++_}
@@ -16,8 +17,8 @@ use Rattle.words.proofs.Cases.{by-order}
 use Rattle.groups.specs.Group.{run}
 use Rattle.groups.proofs.Run.{run-within, run-ends}
 use Rattle.blocks.specs.GroupsAndTail.{cut, Start}
-use Rattle.blocks.proofs.Cut.{cut-group, cut-tail, cut-append, total, all-bytes, Longer, longer, tail-run, nothing-left}
 use Rattle.blocks.specs.Places.{placed, listed, ending, from, less}
+use Rattle.blocks.proofs.Cut.{cut-group, cut-tail, cut-append, total, all-bytes, Longer, tail-run, longer-than-tail, drop-all}
 
 -- no group that begins past n ends before it, and none that is long enough to pass it
 past : (n p : ℕ) (gs : List (List ℕ)) → n < p → ending 0 n (placed p gs) ≡ []
@@ -37,7 +38,7 @@ early n p (g ∷ gs) hs t h l =
 pub ends-within : (a z : List ℕ) → ending 0 (length a) (listed (a ++ z)) ≡ listed a
 ends-within a z =
     ap (λ (gs : List (List ℕ)). ending 0 (length a) (placed 0 gs)) (cut-append a z)
-    ∙ early (length a) 0 (cut a .groups) (cut (cut a .tail ++ z) .groups) (length (cut a .tail)) (omega (arith, all-bytes a)) (longer a z)
+    ∙ early (length a) 0 (cut a .groups) (cut (cut a .tail ++ z) .groups) (length (cut a .tail)) (omega (arith, all-bytes a)) (longer-than-tail a z)
 
 -- groups that begin before n are left out, and those from n on stay
 skipped : (n p : ℕ) (gs hs : List (List ℕ)) → p + total gs < n → from n (placed p (gs ++ hs)) ≡ from n (placed (p + total gs) hs)
@@ -46,7 +47,7 @@ skipped n p (g ∷ gs) hs h =
     let e : p + (length g + total gs) ≡ p + length g + total gs = omega arith in
     rw (lt-leb n p (omega arith), e) (skipped n (p + length g) gs hs (omega arith))
 
-pub from-early : (n p : ℕ) (gs : List (List ℕ)) → n ≤ p → from n (placed p gs) ≡ placed p gs
+from-early : (n p : ℕ) (gs : List (List ℕ)) → n ≤ p → from n (placed p gs) ≡ placed p gs
 from-early n p [] h = refl
 from-early n p (g ∷ gs) h = rw (le-leb n p h, from-early n (p + length g) gs (omega arith))
 
@@ -80,7 +81,7 @@ begins-from a b n behind there =
     none-low : length b ≤ run b → from n (placed (0 + total (cut a .groups)) (cut (t ++ b) .groups)) ≡ placed (length a + run b + 1) (cut (drop (run b + 1) b) .groups)
     none-low h =
         let r : run (t ++ b) ≡ length (t ++ b) = rw length-append (omega (arith, tail-run a b, run-within b)) in
-        rw (cut-tail (t ++ b) r, nothing-left b h) refl
+        rw (cut-tail (t ++ b) r, drop-all b h) refl
 
 pub from-placed : (s : List ℕ) (p : ℕ) → Start s p → from p (listed s) ≡ placed p (cut (drop p s) .groups)
 from-placed s p k =

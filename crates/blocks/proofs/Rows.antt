@@ -1,4 +1,17 @@
--- The rows of a step and of a set-down, in their order: what is answered when.
+-- The rows of a step and of a set-down, in their order: what is answered where no row before it holds.
+--
+--   step-too-long      a step in a block above the limit is refused by 7
+--   step-past          past the end of the block, by 4
+--   step-finished      at the end, it says Finished
+--   step-not-a-start   where the test for a start fails, it is refused by 6
+--   step-tail          where no byte below 128 follows, it says Tail, with the count of the bytes that are left, and stays
+--   step-says          else, it says what is said of the group through the first byte below 128
+--   step-group         an answer that says this, by that group's reading, is the step's
+--   set-too-long       a set-down in a block above the limit is refused by 7
+--   set-past           past the end of the block, by 4
+--   set-front          at place 0, it stays there
+--   set-found          else, it goes just past the first byte below 128 at or after the byte before the place,
+--   set-none           and where there is no such byte it is refused by 8
 use Prim.Native.Nat.{ℕ, _+_, _-_, _≤_, _<_}
 use mathlib.Core.Path.{_≡_, ap, sym, _∙_}
 use mathlib.Core.List.{List}

@@ -1,7 +1,13 @@
 -- Each answer of a set-down exactly when: the least start at or after a place is just past the first byte below 128 at or after the byte
 -- before it.
+--
+--   not-before          behind place 0, no start at p or later is before the place just past that byte,
+--   start-there         and where the block has such a byte that place is a start
+--   some-set-down-row   one of the rows holds
+--   set-down-row-kept   where its row holds, an answer is a set-down's
+--   set-down-rows       an answer is a set-down's exactly where its row holds
 use Prim.Native.Nat.{ℕ, _+_, _-_, _≤_, _<_}
-use mathlib.Core.Path.{_≡_, refl, ap, sym, _∙_}
+use mathlib.Core.Path.{_≡_, ap, sym, _∙_}
 use mathlib.Core.List.{List}
 use mathlib.Core.Logic.{_↔_, inl, inr, ⊎-elim}
 use native.Mathlib.Omega.{arith}
@@ -10,19 +16,20 @@ use lib.Seq.{getD-drop}
 use Rattle.words.specs.declared.Refusal.{Refusal}
 use Rattle.words.specs.declared.Refusal.the-variants.{Place, TooLong, NoStart}
 use Rattle.words.proofs.Cases.{by-order}
+use Rattle.words.proofs.OneMeaning.{by-rows}
 use Rattle.groups.specs.Group.{run}
 use Rattle.groups.proofs.Run.{in-run, at-run}
 use Rattle.blocks.specs.Block.{blockLimit}
 use Rattle.blocks.specs.Promise.{SetsDown}
+use Rattle.blocks.specs.GroupsAndTail.{Start}
+use Rattle.blocks.specs.Rows.{Least, SetDownRefused, SetDownRow}
+use Rattle.blocks.specs.Rows.SetDownRefused.{too-long, past, no-start}
 use Rattle.blocks.specs.declared.Cursor.{Cursor}
 use Rattle.blocks.specs.declared.SetDown.{SetDown}
 use Rattle.blocks.specs.declared.SetDown.the-variants as D
 use Rattle.blocks.proofs.Rows.{set-too-long, set-past, set-front, set-found, set-none}
-use Rattle.blocks.specs.GroupsAndTail.{Start}
-use Rattle.blocks.specs.Rows.{Least, SetDownRefused, SetDownRow}
-use Rattle.blocks.specs.Rows.SetDownRefused.{too-long, past, no-start}
+use Rattle.blocks.proofs.FromStart.{front-start}
 use Rattle.blocks.proofs.OneStep.{same-set-down}
-use Rattle.words.proofs.OneMeaning.{by-rows}
 
 abbrev cursor : ℕ → Cursor
 cursor q = record { place = record { 0 = q } }
@@ -102,7 +109,7 @@ module _ (s : List ℕ) (p : ℕ) where
       let k : Least s p (c .place .0) = h .1 in
       by-order p 1
       (λ z. set-front s p (h .0) (omega (arith, k .from, k .start .here)) c
-      (by-order 0 (c .place .0) (λ l. absurd (k .none-before 0 (omega arith) l (record { here = omega arith; behind = inl refl }))) (λ l. omega arith)) z)
+      (by-order 0 (c .place .0) (λ l. absurd (k .none-before 0 (omega arith) l (front-start s))) (λ l. omega arith)) z)
       (λ some.
       let low = not-before s p some (c .place .0) (k .from) (k .start) in
       let there : p - 1 + run (drop (p - 1) s) < length s = omega (arith, low, k .start .here) in

@@ -1,7 +1,9 @@
 -- Each answer of a step exactly when its row holds.
 --
+--   says-group      where a group stands, a step says what is said of the group
 --   step-row-kept   where its row holds, an answer is a step's
---   some-step-row   one of the rows holds
+--   some-step-row   in a block of bytes one of the rows holds
+--   step-rows       there an answer is a step's exactly where its row holds
 use Prim.Native.Nat.{ℕ, _+_, _-_, _≤_, _<_}
 use mathlib.Core.Path.{_≡_, refl, ap, sym, _∙_}
 use mathlib.Core.List.{List}
@@ -13,12 +15,17 @@ use Rattle.words.specs.declared.Count.{Count}
 use Rattle.words.specs.declared.Refusal.{Refusal}
 use Rattle.words.specs.declared.Refusal.the-variants.{Place, NotAStart, TooLong}
 use Rattle.words.proofs.Cases.{by-order, by-test, clash}
+use Rattle.words.proofs.OneMeaning.{by-rows}
 use Rattle.groups.specs.Group.{Bytes}
 use Rattle.groups.specs.Width.{Width, reading}
+use Rattle.groups.proofs.Rows.{reading-cases}
 use Rattle.uleb128.specs.Unsigned.{u64}
 use Rattle.sleb128.specs.Signed.{i64}
 use Rattle.blocks.specs.Block.{isStart, Val, unsigned, signed, Stepped, number, gap, valued, readBy, says, saysBy, stepping, blockLimit}
 use Rattle.blocks.specs.Promise.{meansValue, Steps}
+use Rattle.blocks.specs.GroupsAndTail.{Start, GroupAt, TailAt}
+use Rattle.blocks.specs.Rows.{GroupReads, StepRefused, StepRow}
+use Rattle.blocks.specs.Rows.StepRefused.{too-long, past, not-a-start}
 use Rattle.blocks.specs.declared.Cursor.{Cursor}
 use Rattle.blocks.specs.declared.Rule.{Rule}
 use Rattle.blocks.specs.declared.Rule.the-variants.{Unsigned, Signed}
@@ -27,12 +34,7 @@ use Rattle.blocks.specs.declared.Step.the-variants as S
 use Rattle.blocks.specs.declared.Value.the-variants as N
 use Rattle.blocks.proofs.Rows.{step-too-long, step-past, step-finished, step-not-a-start}
 use Rattle.blocks.proofs.FromStart.{start-true, true-start, AtStart, the-end, a-tail, a-group, from-start, tail-says, group-says, group-here, here-group}
-use Rattle.blocks.specs.GroupsAndTail.{Start, GroupAt, TailAt}
-use Rattle.blocks.specs.Rows.{GroupReads, StepRefused, StepRow}
-use Rattle.blocks.specs.Rows.StepRefused.{too-long, past, not-a-start}
-use Rattle.groups.proofs.Rows.{reading-cases}
 use Rattle.blocks.proofs.OneStep.{same-step}
-use Rattle.words.proofs.OneMeaning.{by-rows}
 
 -- a number or a gap over n bytes, and the cursor at q
 abbrev saysTo : Answer Val → ℕ → ℕ → Stepped

@@ -1,13 +1,13 @@
 -- Document 01, "Blocks, groups and tails".
 --
---   blockLimit       the most bytes of a block
---   isStart s p       p is 0, or stands just past a byte below 128
---   Val               a number by the rule that it was read by
---   readBy rule g     the reading of a group by the rule: its number, or the reason why it has none; `valued` says by which rule it was read
---   Stepped           what a step says, in document 01's numbers and values; its last number is the place of the cursor handed back
---   says, saysBy      what a step says of a group: its number, or else a gap
---   stepping rule s p the rows of a step in their order
---   settingDown s p   the least start at or after p, or 8
+--   blockLimit          the most bytes of a block
+--   isStart s p         p is 0, or stands just past a byte below 128
+--   Val                 a number by the rule that it was read by
+--   readBy rule g       the reading of a group by the rule: its number, or the reason why it has none; `valued` says by which rule it was read
+--   Stepped             what a step says, in document 01's numbers and values; its last number is the place of the cursor handed back
+--   says, saysBy        what a step says of a group: its number, or else a gap
+--   stepping rule s p   the rows of a step in their order
+--   settingDown s p     the least start at or after p, or 8
 use Prim.Native.Nat.{ℕ, _+_, _-_}
 use mathlib.Core.List.{List}
 use mathlib.Core.Bool.{Bool, not}

@@ -9,11 +9,11 @@
 use Prim.Native.Nat.{ℕ, _-_, _≤_, _<_}
 use mathlib.Core.Path.{_≡_}
 use mathlib.Core.Logic.{_⊎_}
-use lib.ListN.{length, getD, take, drop}
-use Rattle.groups.specs.Group.{High, Group}
 use mathlib.Core.List.{List, [], _∷_}
+use lib.ListN.{length, getD, take, drop}
 use lib.Dec.{ltb}
 use Rattle.words.specs.Answer.{pick}
+use Rattle.groups.specs.Group.{High, Group}
 
 pub record Start (s : List ℕ) (p : ℕ) : Type 0 where
   pub here : p ≤ length s

@@ -1,7 +1,7 @@
 -- What the functions inside the crate promise.
 --
---   meansReading       what a group's reading says
---   readAt rule s p     what the table of the rule's width says of s from the place p on, without the count
+--   meansReading         what a group's reading says
+--   readAt rule s p      what the table of the rule's width says of s from the place p on, without the count
 --   ReadsBy rule s p r   r is what a reader of numbers by the rule says at the place p of s
 use Prim.Native.Nat.{ℕ}
 use mathlib.Core.List.{List}

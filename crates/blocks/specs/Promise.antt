@@ -1,9 +1,9 @@
 -- What the functions of this crate promise.
 --
---   meansValue               the number that a step gives, by its rule
+--   meansValue                the number that a step gives, by its rule
 --   meansStep, meansSetDown   what the answers of a step and of a set-down say
---   Steps                 a step of a cursor at the place p of the block s, by the rule
---   SetsDown              set-down at the place p of the block s
+--   Steps                     a step of a cursor at the place p of the block s, by the rule
+--   SetsDown                  set-down at the place p of the block s
 use Prim.Native.Nat.{ℕ}
 use mathlib.Core.List.{List}
 use mathlib.Core.Path.{_≡_}

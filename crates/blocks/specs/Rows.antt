@@ -1,9 +1,9 @@
 -- What is claimed of a step and of a set-down: document 01's rows, each answer exactly when.
 --
---   GroupReads       a group at a place, its reading, its count of bytes and the place past it
---   StepRow          the row of each answer of a step; `StepRefused`: of each refusal
---   Least s p q      q is the least start at p or later
---   SetDownRow       the row of each answer of a set-down; `SetDownRefused`: of each refusal
+--   GroupReads    a group at a place, its reading, its count of bytes and the place past it
+--   StepRow       the row of each answer of a step; `StepRefused`: of each refusal
+--   Least s p q   q is the least start at p or later
+--   SetDownRow    the row of each answer of a set-down; `SetDownRefused`: of each refusal
 use Prim.Native.Nat.{ℕ, _+_, _≤_, _<_}
 use mathlib.Core.Path.{_≡_}
 use mathlib.Core.List.{List}

@@ -1,4 +1,6 @@
 -- The one value of `Claims`: everything that is claimed, proved.
+--
+--   all   the chapters together
 use Rattle.claims.specs.Claims.{Claims}
 use Rattle.claims.proofs.OfNumbers.{numbers}
 use Rattle.claims.proofs.OfBlocks.{blocks}

@@ -1,4 +1,11 @@
--- Demand 3: from the groups' locality, and from what a reader gives.
+-- Demand 3: what stands and is read before and behind a stretch that was replaced.
+--
+--   damage-front        every group that ends before the stretch stands as before, no other appears there, and a step there answers as before
+--   damage-back         every group that begins after the first byte below 128 past the stretch stands as before, its place moved only by the
+--                       change in length, no other appears there, and a step says of it what it said
+--   damage-front-read   what a reader gives that ends before the stretch is the same list, if the rules chosen there are the same
+--   damage-back-read    what it gives that begins after that byte is the same list, with places counted from there, if the rules chosen there
+--                       are the same
 use Prim.Native.Nat.{ℕ, _+_, _-_, _≤_, _<_}
 use mathlib.Core.Path.{_≡_, refl, ap, sym, _∙_}
 use mathlib.Core.List.{List, [], _∷_, _++_, append-assoc}
@@ -11,18 +18,18 @@ use Rattle.words.proofs.Cases.{by-test}
 use Rattle.groups.specs.Group.{run}
 use Rattle.blocks.specs.Block.{Val, saysBy}
 use Rattle.blocks.specs.Promise.{meansStep, Steps}
-use Rattle.blocks.specs.declared.Step.{Step}
 use Rattle.blocks.specs.GroupsAndTail.{cut, GroupAt}
-use Rattle.blocks.proofs.Cut.{total, all-bytes, Some, some-each}
-use Rattle.blocks.specs.declared.Rule.{Rule}
 use Rattle.blocks.specs.Places.{placed, listed, ending, from, less}
 use Rattle.blocks.specs.Readings.{Block, readings, ReaderGives}
-use Rattle.claims.specs.OfDamage.{Front, Back, FrontRead, BackRead}
+use Rattle.blocks.specs.declared.Step.{Step}
+use Rattle.blocks.specs.declared.Rule.{Rule}
+use Rattle.blocks.proofs.Cut.{total, all-bytes, Some, some-each}
 use Rattle.blocks.proofs.Local.{ends-before, begins-behind, groups-local}
 use Rattle.blocks.proofs.Places.{ends-within, begins-from}
 use Rattle.blocks.proofs.Readings.{reads-all}
 use Rattle.blocks.proofs.OneStep.{same-step}
 use Rattle.blocks.proofs.StepRows.{says-group}
+use Rattle.claims.specs.OfDamage.{Front, Back, FrontRead, BackRead}
 
 -- a step says of a group what its own bytes say
 said : {rule : Rule} {s : List ℕ} {p : ℕ} {g : List ℕ} {r : Step} → Block s → GroupAt s p g → Steps rule s p r → meansStep r ≡ saysBy rule g p

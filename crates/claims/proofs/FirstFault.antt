@@ -1,7 +1,8 @@
 -- The numbers of a block, or its first fault.
 --
---   Outcome, outcome   what the numbers of a block say of it: it is their forms, or behind some of them stands a fault
---   fault-behind       and back: behind the forms of numbers a fault is the first one
+--   Outcome s a    what the numbers a of the block s say of it: it is their forms, or behind the forms of some numbers stands a fault
+--   outcome        so it is with the numbers of any bytes
+--   fault-behind   and back: behind the forms of numbers of 64 bits a fault is the first one
 use Prim.Native.Nat.{ℕ, zero, suc, _+_, _<_, _^_}
 use mathlib.Core.Path.{_≡_, refl, ap, sym, _∙_}
 use mathlib.Core.List.{List, [], _∷_, _++_, append-assoc}
@@ -17,7 +18,7 @@ use Rattle.groups.specs.Begins.{Begins}
 use Rattle.groups.specs.Group.{Bytes, High, Group, run}
 use Rattle.groups.specs.Width.{reading}
 use Rattle.groups.proofs.Exact.{group-length}
-use Rattle.groups.proofs.Run.{run-within, all-high, high-all}
+use Rattle.groups.proofs.Run.{run-within, high-full, full-high}
 use Rattle.groups.proofs.Stands.{front-group, reading-count, run-behind}
 use Rattle.uleb128.specs.Unsigned.{form, u64}
 use Rattle.lists.specs.Lists.{forms}
@@ -100,7 +101,7 @@ outcome (suc n) s h bytes =
       rest = s;
       words = tt;
       behind = refl;
-      fault = Fault.tail some (high-all s c);
+      fault = Fault.tail some (full-high s c);
     })))
     (λ none. rw (numbers-none s (omega arith)) (all [] (empty s (omega arith), tt))))
 
@@ -113,7 +114,7 @@ gap-refused why g rest k row =
 
 tail-refused : (rest : List ℕ) → 0 < length rest → High rest → numbers rest ≡ refused (by 1)
 tail-refused rest some high =
-    numbers-tail rest (all-high rest high) some
+    numbers-tail rest (high-full rest high) some
 
 faulty : (why : Refusal) (rest : List ℕ) → Fault rest why → numbers rest ≡ refused (because why)
 faulty why rest (Fault.gap g more e k row) = ap numbers e ∙ gap-refused why g more k row

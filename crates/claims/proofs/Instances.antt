@@ -1,35 +1,36 @@
 -- An instance for each hypothesis of the claims that `met` does not already give: no claim is empty.
 --
---   written, number   write-read, read-write, more-behind, some-byte: zero is written into a buffer of one byte, and read there
---   list              list-back: a list of one number is written
---   group             read-group: a group
---   before, behind    damage-front, damage-back: in the block 05 80 07 03 the stretch 80 is replaced by nothing
---   old, new          both are blocks, so that damage-front-read and damage-back-read speak of them
---   set-down, lost    reader-set-down, front-lost: at place 1 of 05 06, and of 05 06 07 whose first byte is lost
+--   written, read-back   write-read, read-write, more-behind, some-byte: zero is written into a buffer of one byte, and read there
+--   list                 list-back: a list of one number is written
+--   group                read-group: a group
+--   before, behind       damage-front, damage-back: in the block 05 80 07 03 the stretch 80 is replaced by nothing
+--   old, new             both are blocks, so that damage-front-read and damage-back-read speak of them
+--   set-down, lost       reader-set-down, front-lost: at place 1 of 05 06, and of 05 06 07 whose first byte is lost
 use Prim.Native.Nat.{ℕ, zero, suc, _+_, _<_}
 use mathlib.Core.Path.{_≡_, refl}
 use mathlib.Core.List.{List, [], _∷_, _++_}
-use mathlib.Core.Logic.{inl, inr}
+use mathlib.Core.Logic.{inr}
 use native.Mathlib.Omega.{arith}
 use lib.ListN.{length, drop}
 use Rattle.words.specs.Answer.{gives}
+use Rattle.words.specs.Lays.{writing, laid}
 use Rattle.words.specs.declared.Count.{Count}
 use Rattle.words.specs.declared.Written.the-variants as W
 use Rattle.groups.specs.Form.{spell, spellings}
 use Rattle.groups.specs.Group.{Bytes, Group, one, run, digits}
-use Rattle.words.specs.Lays.{writing, laid}
 use Rattle.groups.specs.Width.{runsOut, tooLarge, tooMany, reading, read}
 use Rattle.uleb128.specs.Unsigned as unsigned
 use Rattle.sleb128.specs.Signed as signed
 use Rattle.blocks.specs.Block.{settingDown}
 use Rattle.blocks.specs.Promise.{SetsDown}
+use Rattle.blocks.specs.GroupsAndTail.{GroupAt}
+use Rattle.blocks.specs.Readings.{Block}
 use Rattle.blocks.specs.declared.Cursor.{Cursor}
 use Rattle.blocks.specs.declared.SetDown.the-variants as D
+use Rattle.blocks.proofs.FromStart.{front-start}
 use Rattle.lists.specs.Lists.{forms}
 use Rattle.lists.specs.Promise.{WritesList}
 use Rattle.claims.specs.Kinds.{Kind, loop64, recursive64, unsigned32, signed64, number, ReadsAs, width, WritesAs}
-use Rattle.blocks.specs.GroupsAndTail.{GroupAt}
-use Rattle.blocks.specs.Readings.{Block}
 use Rattle.claims.specs.OfNumbers.{zeroOf}
 use Rattle.claims.proofs.Readers.{number-says}
 
@@ -76,7 +77,7 @@ b = 7 ∷ 3 ∷ []
 
 module _ where
   before : GroupAt (a ++ x ++ b) 0 (5 ∷ [])
-  before = record { start = record { here = omega arith; behind = inl refl }; is-group = one {b = 5} (omega arith); there = refl }
+  before = record { start = front-start (a ++ x ++ b); is-group = one {b = 5} (omega arith); there = refl }
 
   behind : (length (a ++ x) + run b < 3) × GroupAt (a ++ x ++ b) 3 (3 ∷ [])
   unfolding run

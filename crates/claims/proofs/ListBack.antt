@@ -1,30 +1,36 @@
 -- Lists written and read strictly.
+--
+--   form-alone      the form of a number of 64 bits, read alone, gives the number and the form's length
+--   numbers-ahead   such a form in front of a block is a number in front of the block's numbers
+--   numbers-forms   the numbers of such forms, one after another, are these numbers
+--   strict-fills    a block within the limit that is all numbers, with room for them: their count is answered, and they fill the slice's front
+--   list-back       strict reading of what list writing wrote gives the list back, if that is within the block limit and the slice holds it
 use Prim.Native.Nat.{ℕ, _+_, _≤_, _<_, _^_}
 use mathlib.Core.Path.{_≡_, refl, ap, sym, _∙_}
 use mathlib.Core.List.{List, [], _∷_, _++_, append-nil, append-assoc}
 use native.Mathlib.Omega.{arith}
+use borrow.Author.Tests.{le-leb, le-ltb}
 use lib.ListN.{length, take, drop, length-append}
 use lib.Seq.{length-take-le, drop-append-seam, take-append-seam}
-use borrow.Author.Tests.{le-leb, le-ltb}
 use Rattle.words.specs.Answer.{gives, meansWritten}
 use Rattle.words.specs.declared.Count.{Count}
 use Rattle.words.specs.declared.Written.the-variants as W
 use Rattle.words.proofs.Cases.{by-order}
-use Rattle.blocks.specs.Block.{blockLimit}
+use Rattle.words.proofs.OneMeaning.{apart}
 use Rattle.groups.specs.Group.{run}
 use Rattle.groups.specs.Width.{reading}
 use Rattle.groups.proofs.Stands.{reading-count}
 use Rattle.uleb128.specs.Unsigned.{form, u64}
+use Rattle.blocks.specs.Block.{blockLimit}
 use Rattle.lists.specs.Lists.{forms, listLimit}
 use Rattle.lists.specs.Strict.{joined, numbers, strict, filled}
-use Rattle.lists.proofs.NumbersInFront.{numbers-group, numbers-none}
 use Rattle.lists.specs.Promise.{WritesList}
 use Rattle.lists.specs.declared.ReadList.the-variants as L
+use Rattle.lists.proofs.NumbersInFront.{numbers-group, numbers-none}
+use Rattle.lists.proofs.OneList.{same-list}
 use Rattle.claims.specs.Kinds.{loop64}
 use Rattle.claims.specs.OfLists.{ListBack, Of64Bits}
 use Rattle.claims.proofs.ReadGroup.{from-front}
-use Rattle.lists.proofs.OneList.{same-list}
-use Rattle.words.proofs.OneMeaning.{apart}
 use Rattle.claims.proofs.RoundTrips.{writes-list}
 use Rattle.claims.proofs.Readers.{reading-of}
 
@@ -57,10 +63,10 @@ numbers-forms [] h = numbers-none [] refl
 numbers-forms (v ∷ ns) h = numbers-ahead v (forms ns) (h .0) ∙ rw (numbers-forms ns (h .1))
 
 -- what strict reading leaves of a block without a fault, for which there is room
-pub strictly : (s ns old : List ℕ) → length s ≤ blockLimit → numbers s ≡ gives ns → length ns ≤ length old
+pub strict-fills : (s ns old : List ℕ) → length s ≤ blockLimit → numbers s ≡ gives ns → length ns ≤ length old
     → (strict s (length old) ≡ gives (length ns)) × (filled s old ≡ ns ++ drop (length ns) old)
 unfolding strict filled
-strictly s ns old short e room =
+strict-fills s ns old short e room =
     let t = le-ltb blockLimit (length s) short in
     let f = le-leb (length ns) (length old) room in
     (rw (t, e, f), rw (t, e, f))
@@ -87,5 +93,5 @@ pub list-back : ListBack
 list-back ns before at n after old r out words w short room p =
     let k = written-there ns before at n after w in
     let b : length (take (n .0) (drop at after)) ≤ blockLimit = rw (k .1) (rw (k .0) at short) in
-    let q = strictly (take (n .0) (drop at after)) ns old b (ap numbers (k .1) ∙ numbers-forms ns words) room in
+    let q = strict-fills (take (n .0) (drop at after)) ns old b (ap numbers (k .1) ∙ numbers-forms ns words) room in
     (same-list r (L.Filled (record { 0 = length ns })) (p .answer ∙ q .0), p .leaves ∙ q .1)

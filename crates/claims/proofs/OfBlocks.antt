@@ -1,11 +1,13 @@
 -- What is claimed of blocks, proved.
+--
+--   blocks   the chapter
 use mathlib.Core.Path.{sym, _∙_}
 use Rattle.blocks.proofs.OneStep.{same-step, same-set-down}
 use Rattle.blocks.proofs.StepRows.{step-row-kept, some-step-row as step-found, step-rows}
 use Rattle.blocks.proofs.SetDownRows.{set-down-row-kept, some-set-down-row as set-found, set-down-rows}
+use Rattle.claims.specs.OfBlocks.{OfBlocks}
 use Rattle.claims.proofs.ReaderSetDown.{reader-from, reader-set-down}
 use Rattle.claims.proofs.ReadGroup.{read-group}
-use Rattle.claims.specs.OfBlocks.{OfBlocks}
 
 pub blocks : OfBlocks
 blocks = record {

@@ -1,7 +1,9 @@
 -- What is claimed of damage, proved.
+--
+--   damage   the chapter
+use Rattle.claims.specs.OfDamage.{OfDamage}
 use Rattle.claims.proofs.Damage.{damage-front, damage-back, damage-front-read, damage-back-read}
 use Rattle.claims.proofs.ReaderSetDown.{front-lost}
-use Rattle.claims.specs.OfDamage.{OfDamage}
 
 pub damage : OfDamage
 damage = record {

@@ -1,32 +1,30 @@
 -- What is claimed of lists, proved.
+--
+--   lists   the chapter
 use Prim.Native.Nat.{ℕ}
 use mathlib.Core.Path.{sym, _∙_}
 use mathlib.Core.List.{List}
-use borrow.Author.Tests.{lt-ltb, le-ltb}
 use lib.ListN.{length}
 use Rattle.words.specs.declared.Refusal.the-variants.{TooLong}
 use Rattle.words.specs.declared.Written.{Written}
 use Rattle.words.specs.declared.Written.the-variants as W
 use Rattle.words.proofs.Cases.{by-order}
+use Rattle.words.proofs.OneMeaning.{same-written}
+use Rattle.words.proofs.Lays.{some-lays}
 use Rattle.lists.specs.Lists.{forms, listLimit}
 use Rattle.lists.specs.Promise.{WritesList}
 use Rattle.lists.proofs.OneList.{same-list}
-use Rattle.words.proofs.OneMeaning.{same-written}
+use Rattle.lists.proofs.LayLoop.{list-too-long, list-laid}
+use Rattle.claims.specs.Kinds.{Both}
+use Rattle.claims.specs.OfLists.{OfLists}
 use Rattle.claims.proofs.StrictRows.{strict-rows, strict-row-kept, some-strict-row as strict-found}
 use Rattle.claims.proofs.RoundTrips.{writes-list}
 use Rattle.claims.proofs.ListBack.{list-back}
-use Rattle.words.proofs.Lays.{some-lays}
-use Rattle.claims.specs.Kinds.{Both}
-use Rattle.claims.specs.OfLists.{OfLists}
 
 some-list : (ns s : List ℕ) (at : ℕ) → (x : Written × List ℕ) × Both (WritesList ns s at) x
 some-list ns s at =
-    by-order listLimit (length ns)
-    (λ h. let t = lt-ltb listLimit (length ns) h in ((W.Refused TooLong, s), record { answer = rw t; leaves = rw t }))
-    (λ h.
-    let t = le-ltb listLimit (length ns) h in
-    let f = some-lays (forms ns) s at in
-    (f .0, record { answer = rw t (f .1 .answer); leaves = rw t (f .1 .leaves) }))
+    by-order listLimit (length ns) (λ h. ((W.Refused TooLong, s), list-too-long ns s at h))
+    (λ h. let f = some-lays (forms ns) s at in (f .0, list-laid ns s at h (f .1)))
 
 pub lists : OfLists
 lists = record {

@@ -1,34 +1,37 @@
 -- What is claimed of numbers, proved.
+--
+--   length-is   the count that a length of any kind answers is the length of the number's form
+--   numbers     the chapter
 use Prim.Native.Nat.{ℕ, _-_, _^_, _<_}
 use mathlib.Core.Path.{_≡_, refl, ap, sym, _∙_}
 use mathlib.Core.List.{List, [], _∷_}
+use native.Mathlib.Nat.{lt-trans}
+use native.Mathlib.Omega.{arith}
 use lib.ListN.{length}
+use lib.IntN.{pos}
 use Rattle.words.specs.Refusal.{numberOf}
 use Rattle.words.specs.Lays.{fits}
 use Rattle.words.specs.declared.Count.{Count}
 use Rattle.words.specs.declared.Written.{Written}
-use Rattle.groups.specs.Form.{groups, spell, spellings}
-use Rattle.groups.specs.Promise.{walked}
-use Rattle.uleb128.specs.Unsigned as unsigned
-use Rattle.sleb128.specs.Signed as signed
-use Rattle.claims.specs.Kinds.{Kind, loop64, recursive64, unsigned32, signed64, Value, Reply, number, refuse, ReadsAs, width, form, WritesAs, TakesAs, Both}
-use Rattle.claims.proofs.Readers.{number-says, refusal-says, one-reply, accepts, refuses, excludes, exhausts, within, within-mag}
-use Rattle.claims.proofs.RoundTrips.{writes, write-read, read-write, more-behind, some-byte, lays-form as lays-form}
-use Rattle.groups.proofs.Rows.{read-cases}
-use native.Mathlib.Nat.{lt-trans}
-use native.Mathlib.Omega.{arith}
-use lib.IntN.{pos}
-use Rattle.groups.specs.Group.{run, digits}
-use Rattle.groups.specs.Width.{runsOut, tooLarge, tooMany, reading, read}
-use Rattle.groups.proofs.Spelling.{some-bytes}
-use Rattle.uleb128.proofs.Forms.{form-short, form-some}
-use Rattle.sleb128.proofs.Forms.{form-spelled}
-use Rattle.claims.specs.Try.{Starred}
-use Rattle.claims.proofs.Forms.{two-sentences, twos-complement, signed-form, one-too-many, signed-most}
-use Rattle.claims.proofs.Source.{parse-same, serialize-same}
 use Rattle.words.proofs.Lays.{some-lays}
 use Rattle.words.proofs.OneMeaning.{same-lays}
+use Rattle.groups.specs.Form.{groups, spell, spellings}
+use Rattle.groups.specs.Promise.{walked}
+use Rattle.groups.specs.Group.{run, digits}
+use Rattle.groups.specs.Width.{runsOut, tooLarge, tooMany, reading, read}
+use Rattle.groups.proofs.Rows.{read-cases}
+use Rattle.groups.proofs.Spelling.{some-bytes}
+use Rattle.uleb128.specs.Unsigned as unsigned
+use Rattle.uleb128.proofs.Forms.{form-short, form-some}
+use Rattle.sleb128.specs.Signed as signed
+use Rattle.sleb128.proofs.Forms.{form-spelled}
+use Rattle.claims.specs.Kinds.{Kind, loop64, recursive64, unsigned32, signed64, Value, Reply, number, refuse, ReadsAs, width, form, WritesAs, TakesAs, Both}
+use Rattle.claims.specs.Try.{Starred}
 use Rattle.claims.specs.OfNumbers.{Most, OfNumbers, zeroOf}
+use Rattle.claims.proofs.Readers.{number-says, refusal-says, one-reply, accepts, refuses, excludes, exhausts, within-of-mag, mag-of-within}
+use Rattle.claims.proofs.RoundTrips.{writes, write-read, read-write, more-behind, some-byte, lays-form}
+use Rattle.claims.proofs.Forms.{twos-complement, signed-form, one-too-many, signed-most, shortest-form}
+use Rattle.claims.proofs.Source.{parse-same, serialize-same}
 
 some-written : (k : Kind) (v : Value k) (s : List ℕ) (at : ℕ) → (x : Written × List ℕ) × Both (WritesAs k v s at) x
 some-written loop64 v s at = some-lays (unsigned.form v) s at
@@ -49,7 +52,7 @@ some-reply k s at =
     (λ v n e. (number k v (record { 0 = n }), number-says k s at v (record { 0 = n }) .1 e))
     (λ why e. (refuse k why, refusal-says k s at why .1 e))
 
-pub length-is : (k : Kind) (v : Value k) (n : Count) → TakesAs k v n → n .0 ≡ length (form k v)
+length-is : (k : Kind) (v : Value k) (n : Count) → TakesAs k v n → n .0 ≡ length (form k v)
 length-is loop64 v n p = p .is
 length-is recursive64 v n p = p .is
 length-is unsigned32 v n p = p .is
@@ -67,7 +70,7 @@ unfolding unsigned.form signed.form spell spellings
 most loop64 = (λ v h. form-short v 9 (lt-trans h (omega arith)), (2 ^ 64 - 1, omega arith, refl))
 most recursive64 = (λ v h. form-short v 9 (lt-trans h (omega arith)), (2 ^ 64 - 1, omega arith, refl))
 most unsigned32 = (λ v h. form-short v 4 (lt-trans h (omega arith)), (2 ^ 32 - 1, omega arith, refl))
-most signed64 = (λ v h. signed-most v (within-mag v (2 ^ 63) (omega arith) (h .0) (h .1)), (pos (2 ^ 63 - 1), within (pos (2 ^ 63 - 1)) (2 ^ 63) (omega arith), refl))
+most signed64 = (λ v h. signed-most v (mag-of-within v (2 ^ 63) (omega arith) (h .0) (h .1)), (pos (2 ^ 63 - 1), within-of-mag (pos (2 ^ 63 - 1)) (2 ^ 63) (omega arith), refl))
 
 some-bytes-of : (k : Kind) (v : Value k) → 0 < length (form k v)
 some-bytes-of loop64 v = form-some v
@@ -87,7 +90,7 @@ numbers = record {
   excludes = excludes;
   exhausts = exhausts;
   writes = writes;
-  shortest = two-sentences;
+  shortest = shortest-form;
   lengths = length-is;
   zero-takes-one = zero-takes-one;
   most = most;

@@ -8,11 +8,11 @@ use mathlib.Core.Logic.{_↔_}
 use native.Mathlib.Omega.{arith}
 use lib.Dec.{T, ltb, lt→ltb, ltb→lt}
 use lib.IntN.{ℤ, pos, negsuc}
+use Rattle.words.proofs.OneMeaning.{by-rows}
 use Rattle.turns.specs.Turns.{Means, turnOf}
 use Rattle.turns.specs.declared.Turn.{Turn}
 use Rattle.turns.specs.declared.Turn.the-variants.{Tighten, Loosen, Hold}
 use Rattle.claims.specs.OfTurns.{TurnRow, OfTurns}
-use Rattle.words.proofs.OneMeaning.{by-rows}
 
 not-below : (n : ℕ) → T (ltb n 0) → ⊥
 not-below n t = let h = ltb→lt n 0 t in omega arith
@@ -33,7 +33,7 @@ row-of (pos zero) = (Hold, refl)
 row-of (pos (suc n)) = (Tighten, record { lt = lt→ltb 0 (suc n) (omega arith) })
 row-of (negsuc n) = (Loosen, record { lt = tt })
 
-pub turn-rows : (v : ℤ) (r : Turn) → Means v r ↔ TurnRow v r
+turn-rows : (v : ℤ) (r : Turn) → Means v r ↔ TurnRow v r
 turn-rows v = by-rows (λ r r′ a b. a .is ∙ sym (b .is)) (means-row v) (row-of v)
 
 pub turns : OfTurns

@@ -1,9 +1,9 @@
 -- A group read alone: it is the shortest form of its number, or a gap.
 --
---   from-front   reading a list is reading from its place 0
---   group-bytes  a group is bytes
---   empty        a list of no bytes
---   read-group   each answer exactly when
+--   from-front    reading a list is reading from its place 0
+--   empty         a list of length 0 is the empty one
+--   group-bytes   a group is bytes
+--   read-group    a group is read as a number exactly when it is its shortest form, and refused exactly by the row, 2 or 3, that holds
 use Prim.Native.Nat.{ℕ, zero, suc, _+_}
 use mathlib.Core.Path.{_≡_, refl, ap, sym, _∙_}
 use mathlib.Core.List.{List, [], _∷_, _++_, append-nil}
@@ -15,12 +15,12 @@ use Rattle.words.specs.declared.Refusal.{Refusal}
 use Rattle.groups.specs.Group.{Bytes, Group, one, more}
 use Rattle.groups.specs.Width.{Width, reading, read}
 use Rattle.groups.proofs.Exact.{group-length}
+use Rattle.groups.proofs.Run.{high-full}
 use Rattle.claims.specs.Kinds.{Kind, Value, width, form, OfWidth}
 use Rattle.claims.specs.Table.{Row, GapRow}
 use Rattle.claims.specs.OfBlocks.{ReadGroup}
 use Rattle.claims.proofs.Readers.{reading-of, read-row}
 use Rattle.claims.proofs.TableRows.{row-refused}
-use Rattle.groups.proofs.Run.{all-high}
 
 pub from-front : {A : Type 0} (w : Width A) (s : List ℕ) → read w s 0 ≡ reading w s
 unfolding read
@@ -57,7 +57,7 @@ module _ (k : Kind) (g : List ℕ) where
   gap-row : (why : Refusal) → Group g → Row (width k) g 0 why → GapRow (width k) g why
   gap-row _ group (Row.overflows h row) = GapRow.overflows row
   gap-row _ group (Row.not-shortest h row) = GapRow.not-shortest row
-  gap-row _ group (Row.ends h row) = absurd (omega (arith, group-length group, all-high g (row .high)))
+  gap-row _ group (Row.ends h row) = absurd (omega (arith, group-length group, high-full g (row .high)))
   gap-row _ group (Row.past h) = absurd (omega arith)
 
   row-gap : (why : Refusal) → GapRow (width k) g why → Row (width k) g 0 why

@@ -1,6 +1,8 @@
--- A reader set down anywhere, and a reader of a copy whose front is lost.
+-- A reader from a start, a reader set down anywhere, and a reader of a copy whose front is lost.
 --
---   settled-groups, no-groups     what begins at a place or later stands from the least start there on, or isn't there
+--   reader-from       from a start, it gives exactly the groups that begin there or later
+--   reader-set-down   set down at any place, exactly those that begin there or later; where there is no start there or later, none does
+--   front-lost        set down at place 1 of a copy without the first k bytes, exactly the original's from that start on, their places less k
 use Prim.Native.Nat.{ℕ, _+_, _-_, _≤_, _<_}
 use mathlib.Core.Path.{_≡_, refl, ap, sym, _∙_}
 use mathlib.Core.List.{List, []}
@@ -12,17 +14,18 @@ use Rattle.words.specs.declared.Refusal.the-variants.{NoStart}
 use Rattle.words.proofs.Cases.{by-order}
 use Rattle.groups.specs.Group.{run}
 use Rattle.blocks.specs.GroupsAndTail.{cut, Start}
-use Rattle.blocks.specs.declared.SetDown.the-variants as D
-use Rattle.blocks.proofs.Cut.{nothing-left}
 use Rattle.blocks.specs.Places.{placed, listed, from, less}
 use Rattle.blocks.specs.Rows.{Least}
 use Rattle.blocks.specs.Rows.SetDownRefused.{no-start}
 use Rattle.blocks.specs.Readings.{Block}
-use Rattle.claims.specs.OfBlocks.{ReaderFrom, ReaderSetDown}
-use Rattle.claims.specs.OfDamage.{FrontLost}
+use Rattle.blocks.specs.declared.SetDown.the-variants as D
+use Rattle.blocks.proofs.FromStart.{front-start}
+use Rattle.blocks.proofs.Cut.{drop-all}
 use Rattle.blocks.proofs.Places.{from-placed, begins-from, less-placed}
 use Rattle.blocks.proofs.SetDownRows.{set-down-rows, not-before, start-there}
 use Rattle.blocks.proofs.Readings.{reads-exactly, as-groups}
+use Rattle.claims.specs.OfBlocks.{ReaderFrom, ReaderSetDown}
+use Rattle.claims.specs.OfDamage.{FrontLost}
 
 pub reader-from : ReaderFrom
 reader-from f s p l block k = as-groups f (from-placed s p k) (reads-exactly f s block p l k)
@@ -47,7 +50,7 @@ settled-groups s p c m =
     ∙ begins-from (take (p - 1) s) b p (omega (arith, t)) (omega (arith, t))
     ∙ rw (d, m))
     (λ none.
-    let front : Start s 0 = record { here = omega arith; behind = inl refl } in
+    let front = front-start s in
     let e : c ≡ 0 = by-order 0 c (λ l. absurd (least 0 (omega arith) l front)) (λ l. omega arith) in
     let z : p ≡ 0 = omega arith in
     rw (e, z) (from-placed s 0 front))
@@ -64,7 +67,7 @@ no-groups s p h none =
     (λ l. l) in
     ap (λ (l : List ℕ). from p (listed l)) (sym (take-append-drop (p - 1) s))
     ∙ begins-from (take (p - 1) s) b p (omega (arith, t)) (omega (arith, t))
-    ∙ rw (nothing-left b all) refl)
+    ∙ rw (drop-all b all) refl)
     (λ z. absurd (none p (omega arith) (record { here = h; behind = inl (omega arith) })))
 
 pub reader-set-down : ReaderSetDown

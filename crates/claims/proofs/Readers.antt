@@ -1,4 +1,18 @@
--- What the claims need of each reader, and the claims on readers and writers from it, once for all four.
+-- What the claims need of each reader, and the claims on readers from it, once for all four.
+--
+--   Reading w form OfWidth         the width w is sound, and its readings are the forms of its numbers
+--   within-of-mag, mag-of-within   an integer lies from -h to below h exactly where its `mag` is below h
+--   reading-of                     each kind has such a width, such forms and such numbers
+--   number-says, refusal-says      a reader promises a number, or a refusal, exactly where the reading is that
+--   reply-cases                    an answer that a reader promises is a number or a refusal, and the reading is the same
+--   number-read, refusal-read      from the number or the refusal that was answered to the reading,
+--   read-number, read-refusal      and back
+--   one-reply                      a reader promises one answer
+--   accepts                        a number is answered exactly where the bytes begin with its form, and it is of the width
+--   read-row                       where the reading is a refusal its row holds
+--   refuses                        a refusal is answered exactly where its row holds
+--   excludes                       no two rows hold, and none where the bytes begin with the form of a number of the width
+--   exhausts                       one of them holds, or the bytes begin with such a form
 use Prim.Native.Nat.{ℕ, zero, suc, _^_, _≤_, _<_}
 use mathlib.Core.Path.{_≡_, refl, ap, sym, _∙_, subst}
 use mathlib.Core.List.{List}
@@ -10,6 +24,7 @@ use lib.Signed.{mag, _≤ℤ_, _<ℤ_}
 use Rattle.words.specs.Answer.{Answer, gives, refused, because}
 use Rattle.words.specs.declared.Count.{Count}
 use Rattle.words.specs.declared.Refusal.{Refusal}
+use Rattle.words.proofs.OneMeaning.{apart, refused-same, given-value, given-count, same-both}
 use Rattle.groups.specs.Begins.{Begins}
 use Rattle.groups.specs.Group.{Bytes}
 use Rattle.groups.specs.Width.{Width, read, Due}
@@ -17,18 +32,17 @@ use Rattle.groups.proofs.Rows.{due-kept}
 use Rattle.groups.proofs.FromWalk.{Sound}
 use Rattle.groups.proofs.Stands.{Stands, stands-read}
 use Rattle.uleb128.specs.Unsigned as unsigned
-use Rattle.uleb128.proofs.Widths as unsigned-widths
-use Rattle.uleb128.proofs.ReadsForms.{Under, read-begins, begins-read}
-use Rattle.sleb128.proofs.Widths as signed-widths
-use Rattle.sleb128.proofs.ReadsForms as signed-exactly
 use Rattle.uleb128.specs.declared.ReadU64.the-variants as R64
 use Rattle.uleb128.specs.declared.ReadU32.the-variants as R32
+use Rattle.uleb128.proofs.Widths as unsigned-widths
+use Rattle.uleb128.proofs.ReadsForms.{Under, read-begins, begins-read}
 use Rattle.sleb128.specs.declared.ReadI64.the-variants as RI64
+use Rattle.sleb128.proofs.Widths as signed-widths
+use Rattle.sleb128.proofs.ReadsForms as signed-exactly
 use Rattle.claims.specs.Kinds.{Kind, loop64, recursive64, unsigned32, signed64, Value, Reply, number, refuse, ReadsAs, width, form, OfWidth}
 use Rattle.claims.specs.Table.{Row}
 use Rattle.claims.specs.OfNumbers.{Accepts, Refuses, Excludes, Exhausts}
-use Rattle.words.proofs.OneMeaning.{apart, refused-same, given-value, given-count, same-both}
-use Rattle.claims.proofs.TableRows.{row-refused, decide}
+use Rattle.claims.proofs.TableRows.{row-refused, row-or-number}
 
 -- a width's readings are the forms of its numbers
 pub record Reading {A : Type 0} (w : Width A) (form : A → List ℕ) (OfWidth : A → Type 0) : Type 0 where
@@ -37,15 +51,15 @@ pub record Reading {A : Type 0} (w : Width A) (form : A → List ℕ) (OfWidth :
   pub begun : (s : List ℕ) (at : ℕ) (v : A) (n : ℕ) → Begins form OfWidth s at v n → read w s at ≡ gives (v, n)
 
 -- the numbers of the signed width, by their magnitude
-pub within : (v : ℤ) (h : ℕ) → mag v < h → (negℤ (pos h) ≤ℤ v) × (v <ℤ pos h)
-within v zero l = absurd (omega arith)
-within (pos n) (suc h) l = (record { le = tt }, record { lt = lt→ltb n (suc h) l })
-within (negsuc n) (suc h) l = (record { le = le→leb n h (omega arith) }, record { lt = tt })
+pub within-of-mag : (v : ℤ) (h : ℕ) → mag v < h → (negℤ (pos h) ≤ℤ v) × (v <ℤ pos h)
+within-of-mag v zero l = absurd (omega arith)
+within-of-mag (pos n) (suc h) l = (record { le = tt }, record { lt = lt→ltb n (suc h) l })
+within-of-mag (negsuc n) (suc h) l = (record { le = le→leb n h (omega arith) }, record { lt = tt })
 
-pub within-mag : (v : ℤ) (h : ℕ) → 0 < h → negℤ (pos h) ≤ℤ v → v <ℤ pos h → mag v < h
-within-mag v zero p a b = absurd (omega arith)
-within-mag (pos n) (suc h) p a b = ltb→lt n (suc h) (b .lt)
-within-mag (negsuc n) (suc h) p a b = let q : n ≤ h = leb→le n h (a .le) in omega arith
+pub mag-of-within : (v : ℤ) (h : ℕ) → 0 < h → negℤ (pos h) ≤ℤ v → v <ℤ pos h → mag v < h
+mag-of-within v zero p a b = absurd (omega arith)
+mag-of-within (pos n) (suc h) p a b = ltb→lt n (suc h) (b .lt)
+mag-of-within (negsuc n) (suc h) p a b = let q : n ≤ h = leb→le n h (a .le) in omega arith
 
 -- beginning with a form, under another way to say which numbers are of the width
 rewidth : {A : Type 0} {f : A → List ℕ} {P Q : A → Type 0} {s : List ℕ} {at n : ℕ} {v : A} → (P v → Q v) → Begins f P s at v n → Begins f Q s at v n
@@ -61,8 +75,8 @@ unsigned-reading most top some low = record {
 signed-reading : Reading (width signed64) (form signed64) (OfWidth signed64)
 signed-reading = record {
   sound = signed-widths.sound;
-  begins = λ s at v n bytes e. rewidth (λ l. within v (2 ^ 63) l) (signed-exactly.read-begins s at bytes e);
-  begun = λ s at v n b. signed-exactly.begins-read s at (rewidth (λ l. within-mag v (2 ^ 63) (omega arith) (l .0) (l .1)) b);
+  begins = λ s at v n bytes e. rewidth (λ l. within-of-mag v (2 ^ 63) l) (signed-exactly.read-begins s at bytes e);
+  begun = λ s at v n b. signed-exactly.begins-read s at (rewidth (λ l. mag-of-within v (2 ^ 63) (omega arith) (l .0) (l .1)) b);
 }
 
 pub reading-of : (k : Kind) → Reading (width k) (form k) (OfWidth k)
@@ -88,7 +102,7 @@ refusal-says unsigned32 s at why = due-is
 refusal-says signed64 s at why = due-is
 
 -- an answer that a reader promises is one of its numbers or of its refusals, and what is read says the same
-pub reply-cases : {X : Type 0} (k : Kind) (s : List ℕ) (at : ℕ) (r : Reply k) → ReadsAs k s at r
+reply-cases : {X : Type 0} (k : Kind) (s : List ℕ) (at : ℕ) (r : Reply k) → ReadsAs k s at r
     → ((v : Value k) (n : Count) → r ≡ number k v n → read (width k) s at ≡ gives (v, n .0) → X)
     → ((why : Refusal) → r ≡ refuse k why → read (width k) s at ≡ refused (because why) → X) → X
 reply-cases loop64 s at (R64.Number v n) p value fault = value v n refl (sym (p .is))
@@ -102,10 +116,10 @@ reply-cases signed64 s at (RI64.Refused why) p value fault = fault why refl (sym
 
 -- an answer and what it says
 module _ (k : Kind) (s : List ℕ) (at : ℕ) where
-  pub number-read : (r : Reply k) (v : Value k) (n : Count) → r ≡ number k v n → ReadsAs k s at r → read (width k) s at ≡ gives (v, n .0)
+  number-read : (r : Reply k) (v : Value k) (n : Count) → r ≡ number k v n → ReadsAs k s at r → read (width k) s at ≡ gives (v, n .0)
   number-read r v n e p = number-says k s at v n .0 (subst (ReadsAs k s at) e p)
 
-  pub refusal-read : (r : Reply k) (why : Refusal) → r ≡ refuse k why → ReadsAs k s at r → read (width k) s at ≡ refused (because why)
+  refusal-read : (r : Reply k) (why : Refusal) → r ≡ refuse k why → ReadsAs k s at r → read (width k) s at ≡ refused (because why)
   refusal-read r why e p = refusal-says k s at why .0 (subst (ReadsAs k s at) e p)
 
   pub read-number : (r : Reply k) (v : Value k) (n : Count) → ReadsAs k s at r → read (width k) s at ≡ gives (v, n .0) → r ≡ number k v n
@@ -116,7 +130,7 @@ module _ (k : Kind) (s : List ℕ) (at : ℕ) where
       d ∙ ap (λ (x : Value k × ℕ). number k (x .0) (record { 0 = x .1 })) (same-both (given-value q) (given-count q)))
       (λ why d i. apart (sym e ∙ i))
 
-  pub read-refusal : (r : Reply k) (why : Refusal) → ReadsAs k s at r → read (width k) s at ≡ refused (because why) → r ≡ refuse k why
+  read-refusal : (r : Reply k) (why : Refusal) → ReadsAs k s at r → read (width k) s at ≡ refused (because why) → r ≡ refuse k why
   read-refusal r why p e =
       reply-cases k s at r p (λ v n d i. apart (sym i ∙ e))
       (λ a d i. d ∙ ap (refuse k) (refused-same a why (sym i ∙ e)))
@@ -126,20 +140,18 @@ module _ (k : Kind) (s : List ℕ) (at : ℕ) where
       reply-cases k s at r p (λ v n e i. e ∙ sym (read-number r′ v n q i))
       (λ why e i. e ∙ sym (read-refusal r′ why q i))
 
--- 1
 pub accepts : (k : Kind) → Accepts k
 accepts k s at r bytes p v n = (
   λ e. reading-of k .begins s at v (n .0) bytes (number-read k s at r v n e p),
   λ b. read-number k s at r v n p (reading-of k .begun s at v (n .0) b),
 )
 
--- 2
 pub read-row : (k : Kind) → (s : List ℕ) (at : ℕ) → Bytes s → (why : Refusal) → read (width k) s at ≡ refused (because why) → Row (width k) s at why
 read-row k s at bytes why e =
     ⊎-elim (λ (row : (a : Refusal) × Row (width k) s at a).
     subst (Row (width k) s at) (refused-same (row .0) why (sym (row-refused (width k) (reading-of k .sound) (row .0) s at (row .1)) ∙ e)) (row .1))
     (λ (g : (v : Value k) × (n : ℕ) × Stands (width k) s at v n). apart (sym (stands-read (width k) s at (g .2)) ∙ e))
-    (decide (width k) (reading-of k .sound) s at bytes)
+    (row-or-number (width k) (reading-of k .sound) s at bytes)
 
 pub refuses : (k : Kind) → Refuses k
 refuses k s at r bytes p why = (
@@ -158,4 +170,4 @@ exhausts k s at bytes =
     ⊎-elim (λ row. inl row)
     (λ (g : (v : Value k) × (n : ℕ) × Stands (width k) s at v n).
     inr (g .0, g .1, reading-of k .begins s at (g .0) (g .1) bytes (stands-read (width k) s at (g .2))))
-    (decide (width k) (reading-of k .sound) s at bytes)
+    (row-or-number (width k) (reading-of k .sound) s at bytes)

@@ -1,4 +1,12 @@
 -- The claims on writers and the round trips, once for all four.
+--
+--   lays-form     a writer of any kind lays the number's form down
+--   writes        it answers the count and leaves the form at the place, exactly where there is room; else it answers 5 and leaves every byte
+--   writes-list   a list of more numbers than the limit is refused by 7; any other is written as one number is, its forms one after another
+--   write-read    what was written is read as the same number, with the same count
+--   read-write    what was read, written at the same place, takes the same count and changes no byte
+--   more-behind   more bytes behind an accepted number change nothing
+--   some-byte     at least one byte is taken, if forms have one, and no more than are there
 use Prim.Native.Nat.{ℕ, _+_, _-_, _≤_, _<_}
 use mathlib.Core.Path.{_≡_, refl, ap, sym, _∙_}
 use mathlib.Core.List.{List, _++_, append-assoc}
@@ -8,20 +16,20 @@ use lib.ListN.{length, take, drop, length-append, length-drop, take-append-drop}
 use lib.Seq.{length-take-le, drop-at, drop-append-le, drop-drop, drop-append-seam}
 use Rattle.words.specs.Answer.{gives, meansWritten}
 use Rattle.words.specs.Refusal.{numberOf}
+use Rattle.words.specs.Lays.{writing, laid, Lays}
 use Rattle.words.specs.declared.Count.{Count}
 use Rattle.words.specs.declared.Refusal.the-variants.{NoRoom, TooLong}
 use Rattle.words.specs.declared.Written.{Written}
 use Rattle.words.specs.declared.Written.the-variants as W
 use Rattle.words.proofs.Cases.{by-order}
+use Rattle.words.proofs.OneMeaning.{same-written, apart, refused-same}
 use Rattle.groups.specs.Begins.{Begins}
 use Rattle.groups.specs.Group.{Bytes}
-use Rattle.words.specs.Lays.{writing, laid, Lays}
 use Rattle.lists.specs.Lists.{forms, listLimit}
 use Rattle.lists.specs.Promise.{WritesList}
 use Rattle.claims.specs.Kinds.{Kind, loop64, recursive64, unsigned32, signed64, Value, number, ReadsAs, form, OfWidth, WritesAs}
 use Rattle.claims.specs.OfNumbers.{LaysExactly, Writes, WriteRead, ReadWrite, MoreBehind, SomeByte}
 use Rattle.claims.specs.OfLists.{WritesLists}
-use Rattle.words.proofs.OneMeaning.{same-written, apart, refused-same}
 use Rattle.claims.proofs.Readers.{reading-of, number-says, read-number}
 
 -- what is promised of a write, by its room
@@ -65,7 +73,6 @@ lays-form recursive64 v p = p
 lays-form unsigned32 v p = p
 lays-form signed64 v p = p
 
--- 3
 pub writes : (k : Kind) → Writes k
 writes k v before at r after p = exactly (form k v) before at r after (lays-form k v p)
 
@@ -91,7 +98,6 @@ writes-list ns before at r after w = (
         (λ h. let z = refused-same NoRoom TooLong (ap meansWritten (sym (no-room (forms ns) before at r after l h .0) ∙ e)) in let q : _≡_ {A = ℕ} 5 7 = ap numberOf z in absurd (omega arith))
         (λ h. apart (ap meansWritten (sym (fits (forms ns) before at r after l h .0) ∙ e)))
 
--- 7
 pub write-read : (k : Kind) → WriteRead k
 write-read k v before at n after r of-width p q =
     let b = bytes-fit (form k v) before at (W.Bytes n) after (lays-form k v p) n refl in

@@ -1,4 +1,7 @@
 -- The source's definitions say the same as ours.
+--
+--   serialize-same   `spec_serialize_helper` gives the form of a number
+--   parse-same       `spec_parse` gives what the reading of 64 bits gives, and nothing exactly where it refuses
 use Prim.Native.Nat.{ℕ, zero, suc, _+_, _-_, _*_, _/_, _%_, _^_, _≤_, _<_}
 use mathlib.Core.Path.{_≡_, refl, ap, sym, _∙_}
 use mathlib.Core.List.{List, [], _∷_, _++_}
@@ -13,6 +16,7 @@ use lib.Dec.{ltb, leb}
 use lib.ListN.{length}
 use Rattle.words.specs.Answer.{both, Answer, gives, refused, Why}
 use Rattle.words.proofs.Cases.{by-order, by-test, both-true}
+use Rattle.words.proofs.OneMeaning.{apart}
 use Rattle.groups.specs.Begins.{Begins}
 use Rattle.groups.specs.Group.{Bytes}
 use Rattle.groups.specs.Width.{read}
@@ -22,7 +26,6 @@ use Rattle.uleb128.proofs.Forms.{form-small, form-large, form-spelled}
 use Rattle.claims.specs.Kinds.{loop64}
 use Rattle.claims.specs.Source.{specParseMore, specParse, specSerializeWithin, specSerializeHelper}
 use Rattle.claims.specs.OfNumbers.{SpecParse}
-use Rattle.words.proofs.OneMeaning.{apart}
 use Rattle.claims.proofs.Readers.{reading-of}
 
 serialize-within : (n v : ℕ) → v ≤ n → specSerializeWithin n v ≡ form v

@@ -1,56 +1,48 @@
 -- Each answer of strict reading exactly when its row holds, and the slice afterwards.
-use Prim.Native.Nat.{ℕ, suc, _≤_, _<_}
+--
+--   strict-row-kept   where its row holds, an answer with its slice is strict reading's
+--   some-strict-row   in a block of bytes one of the rows holds
+--   strict-rows       there an answer with its slice is strict reading's exactly where its row holds
+use Prim.Native.Nat.{ℕ, suc, _≤_}
 use mathlib.Core.Path.{_≡_, refl, ap, sym, _∙_}
 use mathlib.Core.List.{List, _++_}
 use mathlib.Core.Logic.{_↔_}
 use native.Mathlib.Omega.{arith}
-use borrow.Author.Tests.{lt-ltb, le-ltb, lt-leb}
 use lib.ListN.{length, drop}
 use Rattle.words.specs.Answer.{Answer, gives, refused, because}
 use Rattle.words.specs.declared.Refusal.{Refusal}
 use Rattle.words.specs.declared.Refusal.the-variants.{NoRoom, TooLong}
 use Rattle.words.proofs.Cases.{by-order}
+use Rattle.words.proofs.OneMeaning.{same-both, by-rows}
 use Rattle.groups.specs.Group.{Bytes}
 use Rattle.blocks.specs.Block.{blockLimit}
-use Rattle.lists.specs.Strict.{numbers, strict, filled}
+use Rattle.lists.specs.Strict.{numbers}
 use Rattle.lists.specs.Promise.{ReadsStrict}
 use Rattle.lists.specs.declared.ReadList.{ReadList}
 use Rattle.lists.specs.declared.ReadList.the-variants as L
-use Rattle.claims.specs.OfLists.{FirstFault, StrictRefused, StrictRow}
-use Rattle.claims.specs.OfLists.StrictRefused.{too-long, faulty, no-room}
-use Rattle.claims.proofs.ListBack.{numbers-forms, strictly}
+use Rattle.lists.proofs.StrictAnswers.{block-too-long, block-faulty, slice-full}
 use Rattle.lists.proofs.OneList.{same-list}
-use Rattle.words.proofs.OneMeaning.{same-both, by-rows}
+use Rattle.claims.specs.OfLists.{StrictRefused, StrictRow}
+use Rattle.claims.specs.OfLists.StrictRefused.{too-long, faulty, no-room}
+use Rattle.claims.proofs.ListBack.{numbers-forms, strict-fills}
 use Rattle.claims.proofs.FirstFault.{Outcome, all, broken, outcome, fault-behind}
 
 module _ (s old : List ℕ) where
   -- where its row holds, an answer with its slice is strict reading's
-  long-row : blockLimit < length s → ReadsStrict s old (L.Refused TooLong) old
-  unfolding strict filled
-  long-row h = let t = lt-ltb blockLimit (length s) h in record { answer = rw t; leaves = rw t }
-
-  fault-row : (why : Refusal) → length s ≤ blockLimit → FirstFault why s → ReadsStrict s old (L.Refused why) old
-  unfolding strict filled
-  fault-row why short k =
-      let t = le-ltb blockLimit (length s) short in
-      let e : numbers s ≡ refused (because why) = ap numbers (k .behind) ∙ fault-behind why (k .ns) (k .rest) (k .words) (k .fault) in
-      record { answer = rw (t, e); leaves = rw (t, e) }
-
   refused-row : (why : Refusal) → StrictRefused s (length old) why → ReadsStrict s old (L.Refused why) old
-  unfolding strict filled
-  refused-row _ (too-long h) = long-row h
-  refused-row why (faulty short k) = fault-row why short k
+  refused-row _ (too-long h) = block-too-long s old h
+  refused-row why (faulty short k) =
+      let e : numbers s ≡ refused (because why) = ap numbers (k .behind) ∙ fault-behind why (k .ns) (k .rest) (k .words) (k .fault) in
+      block-faulty s old short (rw e)
   refused-row _ (no-room short ns k h) =
-      let t = le-ltb blockLimit (length s) short in
       let e : numbers s ≡ gives ns = ap numbers (k .0) ∙ numbers-forms ns (k .1) in
-      let f = lt-leb (length ns) (length old) h in
-      record { answer = rw (t, e, f); leaves = rw (t, e, f) }
+      slice-full s old {n = length ns} short (rw e) h
 
   pub strict-row-kept : (x : ReadList × List ℕ) → StrictRow s old (x .0) (x .1) → ReadsStrict s old (x .0) (x .1)
   strict-row-kept (L.Refused why, out) h = rw (h .1) (refused-row why (h .0))
   strict-row-kept (L.Filled n, out) h =
       let ns = h .1 in
-      let q = strictly s ns old (h .0) (ap numbers (h .2 .0) ∙ numbers-forms ns (h .2 .1)) (h .3) in
+      let q = strict-fills s ns old (h .0) (ap numbers (h .2 .0) ∙ numbers-forms ns (h .2 .1)) (h .3) in
       record { answer = rw (h .4) (sym (q .0)); leaves = h .5 ∙ sym (q .1) }
 
   -- one of the rows holds

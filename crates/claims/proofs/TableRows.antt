@@ -1,5 +1,8 @@
--- The rows of document 01's table are the refusals of a reading, at any sound width: each gives its refusal, and a row holds wherever no
--- accepted group stands.
+-- The rows of document 01's table are the refusals of a reading, at any sound width.
+--
+--   row-refused     where a row holds, the reading is its refusal
+--   Decided s at    a row holds at the place, or a group that the width accepts stands there
+--   row-or-number   so it is at any place, for a list of bytes
 use Prim.Native.Nat.{ℕ, suc, _+_, _-_, _≤_, _<_}
 use mathlib.Core.Path.{_≡_, refl, ap, sym, _∙_}
 use mathlib.Core.List.{List, _++_}
@@ -14,7 +17,7 @@ use Rattle.words.specs.declared.Refusal.the-variants.{End, Overflow, NotShortes
 use Rattle.words.proofs.Cases.{by-order, by-test, clash}
 use Rattle.groups.specs.Group.{Bytes, Group, run}
 use Rattle.groups.specs.Width.{Width, reading, read, tooLarge, tooMany}
-use Rattle.groups.proofs.Run.{run-within, in-run, high-run, run-take-high, all-high, high-all}
+use Rattle.groups.proofs.Run.{run-within, in-run, high-run, run-take-high, high-full, full-high}
 use Rattle.groups.proofs.Rows.{row-end, row-large, read-past, read-from, not-large, too-large, too-many, large-is, many-is}
 use Rattle.groups.proofs.FromWalk.{Sound}
 use Rattle.groups.proofs.Exact.{group-length}
@@ -25,7 +28,7 @@ use Rattle.claims.specs.Table.Row.{ends, overflows, not-shortest, past}
 module _ {A : Type 0} (w : Width A) (sound : Sound w) where
   end-refused : (l : List ℕ) → EndRow w l → reading w l ≡ refused (by 1)
   end-refused l row =
-      let h = all-high l (row .high) in row-end w l h (omega (arith, row .fewer))
+      let h = high-full l (row .high) in row-end w l h (omega (arith, row .fewer))
 
   overflow-refused : (l : List ℕ) → OverflowRow w l → reading w l ≡ refused (by 2)
   overflow-refused l row =
@@ -116,12 +119,12 @@ module _ {A : Type 0} (w : Width A) (sound : Sound w) where
         },
       )))
 
-  pub decide : (s : List ℕ) (at : ℕ) → Bytes s → Decided s at
-  decide s at bytes =
+  pub row-or-number : (s : List ℕ) (at : ℕ) → Bytes s → Decided s at
+  row-or-number s at bytes =
       by-order (length s) at (λ p. inl (Place, past p))
       (λ here.
       by-order (run (drop at s)) (length (drop at s)) (λ closed. decide-closed s at bytes here closed)
       (λ all.
       by-order (run (drop at s)) (w .most)
-      (λ few. inl (End, ends here (record { fewer = omega arith; high = high-all (drop at s) all })))
+      (λ few. inl (End, ends here (record { fewer = omega arith; high = full-high (drop at s) all })))
       (λ many. inl (Overflow, overflows here (overrun-row (drop at s) many)))))

@@ -1,8 +1,9 @@
 -- The lines that are given one after another are the text, for every input.
 --
---   whole, ends   from the top on they are the text, and there are such lines; gives-text: together
---   front-enough        the first bytes of an input have its text
---   text-document      document 01's texts
+--   front-enough    the first bytes of an input, one more than the limit, have its text
+--   gives-text      from the top on, the lines that are given are exactly the text
+--   text-document   the text of document 01's 17 bytes, of the mended ones, and of no bytes
+--   some-line       any listing of bytes, with any buffer, has an answer that keeps the promise
 use Prim.Native.Nat.{ℕ, zero, suc, _+_, _≤_, _<_}
 use mathlib.Core.Path.{_≡_, refl, ap, sym, _∙_}
 use mathlib.Core.List.{List, [], _++_}
@@ -11,34 +12,34 @@ use borrow.Author.Tests.{lt-ltb, le-ltb}
 use lib.ListN.{length, take, drop, replicate, length-replicate}
 use lib.Seq.{take-all, length-take-le, take-append-seam}
 use Rattle.words.specs.declared.Count.{Count}
+use Rattle.words.specs.declared.Refusal.the-variants.{NoRoom}
 use Rattle.words.proofs.Cases.{by-order}
+use Rattle.texts.specs.Texts.{ascii, decimal, decimalWithin}
+use Rattle.groups.specs.Group.{Bytes, run, digits}
+use Rattle.groups.specs.Width.{runsOut, tooLarge, tooMany, reading}
 use Rattle.blocks.specs.Block.{blockLimit}
+use Rattle.blocks.specs.Promise.{meansStep}
+use Rattle.blocks.specs.GroupsAndTail.{cut}
+use Rattle.blocks.specs.declared.Rule.the-variants.{Unsigned}
+use Rattle.blocks.specs.declared.Step.{Step}
+use Rattle.blocks.specs.declared.Step.the-variants as S
+use Rattle.blocks.specs.declared.Value.the-variants as N
+use Rattle.blocks.proofs.StepRows.{some-step-row, step-row-kept}
 use Rattle.listing.specs.Listing.{text, Stage, top, at, ended, Coming, line, lineOf, next, row, rows, lineRoom}
 use Rattle.listing.specs.Promise.{meansListing, meansNext, asked, counted, fronted, GivesLine}
 use Rattle.listing.specs.declared.Listing.{Listing}
 use Rattle.listing.specs.declared.Listing.the-variants as L
 use Rattle.listing.specs.declared.Next.{Next}
 use Rattle.listing.specs.declared.Next.the-variants as X
-use Rattle.words.specs.declared.Refusal.the-variants.{NoRoom}
-use Rattle.blocks.specs.Promise.{meansStep}
-use Rattle.blocks.specs.declared.Rule.the-variants.{Unsigned}
-use Rattle.blocks.specs.declared.Step.{Step}
-use Rattle.blocks.specs.declared.Step.the-variants as S
-use Rattle.blocks.specs.declared.Value.the-variants as N
-use Rattle.blocks.proofs.StepRows.{some-step-row, step-row-kept}
 use Rattle.listing.proofs.Lines as Lines
 use Rattle.listing.proofs.TextLeft as Left
-use Rattle.listing.proofs.TextLeft.{Fine, left, rank, coming}
-use Rattle.listing.proofs.LineGiven.{line-given, nothing-left}
-use Rattle.groups.specs.Group.{Bytes, run, digits}
-use Rattle.groups.specs.Width.{runsOut, tooLarge, tooMany, reading}
-use Rattle.texts.specs.Texts.{ascii, decimal, decimalWithin}
-use Rattle.blocks.specs.GroupsAndTail.{cut}
+use Rattle.listing.proofs.TextLeft.{Fine, left, rank, next-left}
+use Rattle.listing.proofs.LineGiven.{line-given, no-text-left}
 use Rattle.claims.specs.OfListing.{LinesGiven, none, more, GivesText, FrontEnough, Document}
 
 module _ (s : List ℕ) where
   given-left : (g : Listing) (t : List ℕ) → Fine s (meansListing g) → LinesGiven s g t → t ≡ left s (meansListing g)
-  given-left g _ fine (none _ before after room e) = sym (nothing-left fine room e)
+  given-left g _ fine (none _ before after room e) = sym (no-text-left fine room e)
   given-left g _ fine (more _ g′ n before after t room e rest) =
       let k = line-given fine e refl in rw (given-left g′ t (k .fine) rest) (sym (k .goes-on))
 
@@ -75,7 +76,7 @@ module _ (s : List ℕ) (g : Stage) where
 
 given : (s : List ℕ) (fuel : ℕ) (g : Stage) → rank s g < fuel → Fine s g → LinesGiven s (listingAt g) (left s g)
 given s zero g h fine = absurd (omega arith)
-given s (suc fuel) g h fine = goes-on s g (next s g) refl (coming s g fine) (λ g′ k f. given s fuel g′ (omega arith) k)
+given s (suc fuel) g h fine = goes-on s g (next s g) refl (next-left s g fine) (λ g′ k f. given s fuel g′ (omega arith) k)
 
 ends : (s : List ℕ) → LinesGiven s L.Top (text s)
 ends s = given s (length s + 3) top (omega arith) tt
@@ -123,8 +124,8 @@ said-next s (at p) bytes =
     rw (← (w .is)) (said-at p (f .0))
 said-next s ended bytes = (X.Ended, refl)
 
-pub found-line : (g : Listing) (s before : List ℕ) → Bytes s → (r : Next) × GivesLine g s before r (fronted (asked s (meansListing g) (length before)) before)
-found-line g s before bytes =
+pub some-line : (g : Listing) (s before : List ℕ) → Bytes s → (r : Next) × GivesLine g s before r (fronted (asked s (meansListing g) (length before)) before)
+some-line g s before bytes =
     by-order (length before) lineRoom
     (λ h. (X.Refused NoRoom, record { answer = rw (lt-ltb (length before) lineRoom h); leaves = refl }))
     (λ h. let f = said-next s (meansListing g) bytes in (f .0, record { answer = rw (le-ltb (length before) lineRoom h) (f .1); leaves = refl }))

@@ -15,19 +15,19 @@ use lib.IntN.{ℤ, pos, negℤ}
 use lib.Signed.{_≤ℤ_, _<ℤ_}
 use Rattle.words.specs.declared.Count.{Count}
 use Rattle.words.specs.declared.Refusal.{Refusal}
+use Rattle.words.specs.declared.Written.{Written}
 use Rattle.groups.specs.Width.{Width}
 use Rattle.uleb128.specs.Unsigned as unsigned
 use Rattle.uleb128.specs.Promise.{ReadsU64, ReadsU32, WritesU64, WritesU32, LengthU64, LengthU32}
-use Rattle.uleb128_rec.specs.Promise.{ReadsU64Rec, WritesU64Rec}
 use Rattle.uleb128.specs.declared.ReadU64.{ReadU64}
 use Rattle.uleb128.specs.declared.ReadU64.the-variants as R64
 use Rattle.uleb128.specs.declared.ReadU32.{ReadU32}
 use Rattle.uleb128.specs.declared.ReadU32.the-variants as R32
+use Rattle.uleb128_rec.specs.Promise.{ReadsU64Rec, WritesU64Rec}
 use Rattle.sleb128.specs.Signed as signed
 use Rattle.sleb128.specs.Promise.{ReadsI64, WritesI64, LengthI64}
 use Rattle.sleb128.specs.declared.ReadI64.{ReadI64}
 use Rattle.sleb128.specs.declared.ReadI64.the-variants as RI64
-use Rattle.words.specs.declared.Written.{Written}
 
 pub data Kind : Type 0 where
   loop64 recursive64 unsigned32 signed64 : Kind

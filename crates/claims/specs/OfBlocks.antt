@@ -1,10 +1,10 @@
 -- What is claimed of blocks: each answer of a step and of a set-down exactly when, and what a reader gives.
 --
---   ReaderFrom              from a start a reader gives exactly the groups from there on
---   ReaderSetDown           from any place, set down, exactly the groups that begin there or later
---   ReadGroup               when a group is a number
---   BlocksMet, BlocksOne    an answer meets each promise, and no second
---   OfBlocks                all of it
+--   ReaderFrom             from a start a reader gives exactly the groups from there on
+--   ReaderSetDown          from any place, set down, exactly the groups that begin there or later
+--   ReadGroup              when a group is a number
+--   BlocksMet, BlocksOne   an answer meets each promise, and no second
+--   OfBlocks               all of it
 use Prim.Native.Nat.{ℕ}
 use mathlib.Core.Path.{_≡_}
 use mathlib.Core.List.{List, []}
@@ -12,22 +12,22 @@ use mathlib.Core.Logic.{_↔_}
 use lib.ListN.{length}
 use Rattle.words.specs.Answer.{gives, refused, Answer, because}
 use Rattle.words.specs.declared.Refusal.{Refusal}
+use Rattle.words.specs.declared.Refusal.the-variants.{NoStart}
 use Rattle.groups.specs.Group.{Bytes, Group}
 use Rattle.groups.specs.Width.{reading}
-use Rattle.claims.specs.Kinds.{Kind, Value, number, width, form, OfWidth}
 use Rattle.blocks.specs.Promise.{Steps, SetsDown}
 use Rattle.blocks.specs.Readings.{Block, readings, ReaderGives}
+use Rattle.blocks.specs.Rows.{StepRow, SetDownRow}
+use Rattle.blocks.specs.Block.{Val}
+use Rattle.blocks.specs.GroupsAndTail.{Start}
+use Rattle.blocks.specs.Places.{listed, from}
 use Rattle.blocks.specs.declared.Rule.{Rule}
 use Rattle.blocks.specs.declared.SetDown.{SetDown}
 use Rattle.blocks.specs.declared.Step.{Step}
-use Rattle.blocks.specs.Rows.{StepRow, SetDownRow}
-use Rattle.claims.specs.Table.{GapRow}
-use Rattle.words.specs.declared.Refusal.the-variants.{NoStart}
-use Rattle.blocks.specs.Block.{Val}
 use Rattle.blocks.specs.declared.Cursor.{Cursor}
 use Rattle.blocks.specs.declared.SetDown.the-variants as D
-use Rattle.blocks.specs.GroupsAndTail.{Start}
-use Rattle.blocks.specs.Places.{listed, from}
+use Rattle.claims.specs.Kinds.{Kind, Value, number, width, form, OfWidth}
+use Rattle.claims.specs.Table.{GapRow}
 
 -- From a start, a reader gives exactly the groups that begin there or later, in order, each once; every reading ends.
 abbrev pub ReaderFrom : Type 0

@@ -3,7 +3,7 @@
 --   Front, Back           where groups stand, and what a step answers there
 --   FrontRead, BackRead   what a reader gives of the whole block: the readings in each of the two parts are the same list
 --   FrontLost             what a reader gives of a copy whose front is lost
---   OfDamage   all of it
+--   OfDamage              all of it
 use Prim.Native.Nat.{ℕ, _+_, _≤_, _<_}
 use mathlib.Core.Path.{_≡_}
 use mathlib.Core.List.{List, _++_}
@@ -13,11 +13,11 @@ use Rattle.words.specs.Answer.{Answer}
 use Rattle.groups.specs.Group.{run, Bytes}
 use Rattle.blocks.specs.Block.{Val, saysBy}
 use Rattle.blocks.specs.Promise.{meansStep, Steps, SetsDown}
-use Rattle.blocks.specs.declared.Rule.{Rule}
-use Rattle.blocks.specs.declared.Step.{Step}
 use Rattle.blocks.specs.GroupsAndTail.{GroupAt}
 use Rattle.blocks.specs.Places.{ending, from, less, listed}
 use Rattle.blocks.specs.Readings.{Block, readings, ReaderGives}
+use Rattle.blocks.specs.declared.Rule.{Rule}
+use Rattle.blocks.specs.declared.Step.{Step}
 use Rattle.blocks.specs.declared.Cursor.{Cursor}
 use Rattle.blocks.specs.declared.SetDown.the-variants as D
 

@@ -1,29 +1,29 @@
 -- What is claimed of the listing.
 --
---   Digits         a number in decimal
---   LinesGiven s g t    from the listing g of s on, the lines that are given one after another are t: each is put into a buffer that has room for
---                  a line, until there is none
---   GivesText          from the top on they are exactly the text, for every input, and so they end
---   FrontEnough    the first bytes of an input, one more than the limit, have its text
---   Document       the text of document 01's 17 bytes, of the mended ones, and of no bytes
+--   Digits                   a number in decimal
+--   LinesGiven s g t         from the listing g of s on, the lines that are given one after another are t: each is put into a buffer that has room for
+--                            a line, until there is none
+--   GivesText                from the top on they are exactly the text, for every input, and so they end
+--   FrontEnough              the first bytes of an input, one more than the limit, have its text
+--   Document                 the text of document 01's 17 bytes, of the mended ones, and of no bytes
 --   ListingMet, ListingOne   an answer meets each promise, and no second
 --   OfListing                all of it
 use Prim.Native.Nat.{ℕ, _+_, _/_, _%_, _≤_, _<_}
 use mathlib.Core.Path.{_≡_}
 use mathlib.Core.List.{List, [], _∷_, _++_}
-use Rattle.groups.specs.Group.{Bytes, digits}
-use Rattle.texts.specs.Texts.{ascii, decimal, LaysText}
-use Rattle.listing.specs.Promise.{GivesLine}
-use Rattle.listing.specs.declared.Listing.{Listing}
-use Rattle.listing.specs.declared.Next.{Next}
-use Rattle.claims.specs.Kinds.{Both}
 use mathlib.Core.Logic.{_↔_}
 use lib.ListN.{length, take, replicate}
 use Rattle.words.specs.declared.Count.{Count}
+use Rattle.texts.specs.Texts.{ascii, decimal, LaysText}
+use Rattle.groups.specs.Group.{Bytes, digits}
 use Rattle.blocks.specs.Block.{blockLimit}
+use Rattle.listing.specs.Promise.{GivesLine}
 use Rattle.listing.specs.Listing.{text, lineRoom}
+use Rattle.listing.specs.declared.Listing.{Listing}
+use Rattle.listing.specs.declared.Next.{Next}
 use Rattle.listing.specs.declared.Listing.the-variants as L
 use Rattle.listing.specs.declared.Next.the-variants as X
+use Rattle.claims.specs.Kinds.{Both}
 
 abbrev pub Digits : Type 0
 Digits = (v : ℕ) → (v < 10 → decimal v ≡ (48 + v) ∷ []) × (10 ≤ v → decimal v ≡ decimal (v / 10) ++ (48 + v % 10) ∷ [])

@@ -1,15 +1,15 @@
 -- What is claimed of lists of numbers.
 --
 --   Of64Bits ns          every number of the list has 64 bits
---   IsForms s ns      the block s is the forms of the numbers ns, one after another: every group is a number, and there is no tail
---   Fault rest        at the front of the rest: 2 or 3, a group that is none by that row; 1, a tail of any length
---   FirstFault why s  behind the forms of some numbers, the first fault of the block s
---   StrictRefused     the row of each refusal: 7, then the first fault by place (1, 2 or 3, by `Fault`), then 5; no other refusal has a row
---   StrictRow         the row of each answer, with the slice afterwards
---   WritesLists            how a list is written
---   ListBack               a list that was written, read back
---   ListsMet, ListsOne     an answer meets each promise, and no second
---   OfLists                all of it
+--   IsForms s ns         the block s is the forms of the numbers ns, one after another: every group is a number, and there is no tail
+--   Fault rest           at the front of the rest: 2 or 3, a group that is none by that row; 1, a tail of any length
+--   FirstFault why s     behind the forms of some numbers, the first fault of the block s
+--   StrictRefused        the row of each refusal: 7, then the first fault by place (1, 2 or 3, by `Fault`), then 5; no other refusal has a row
+--   StrictRow            the row of each answer, with the slice afterwards
+--   WritesLists          how a list is written
+--   ListBack             a list that was written, read back
+--   ListsMet, ListsOne   an answer meets each promise, and no second
+--   OfLists              all of it
 use Prim.Native.Nat.{ℕ, _≤_, _<_, _^_}
 use mathlib.Core.Path.{_≡_}
 use mathlib.Core.List.{List, _++_, [], _∷_}
@@ -19,7 +19,9 @@ use Rattle.words.specs.declared.Count.{Count}
 use Rattle.words.specs.declared.Refusal.the-variants.{TooLong, End, NoRoom}
 use Rattle.words.specs.declared.Written.{Written}
 use Rattle.words.specs.declared.Written.the-variants as W
+use Rattle.words.specs.declared.Refusal.{Refusal}
 use Rattle.groups.specs.Group.{Bytes, High, Group}
+use Rattle.uleb128.specs.Unsigned.{u64}
 use Rattle.blocks.specs.Block.{blockLimit}
 use Rattle.lists.specs.Lists.{forms, listLimit}
 use Rattle.lists.specs.Promise.{WritesList, ReadsStrict}
@@ -27,9 +29,6 @@ use Rattle.lists.specs.declared.ReadList.{ReadList}
 use Rattle.lists.specs.declared.ReadList.the-variants as L
 use Rattle.claims.specs.Kinds.{Both}
 use Rattle.claims.specs.OfNumbers.{LaysExactly}
-use Rattle.words.specs.declared.Refusal.{Refusal}
-use Rattle.uleb128.specs.Unsigned.{u64}
-use Rattle.lists.specs.declared.ReadList.the-variants as L
 use Rattle.claims.specs.Table.{GapRow}
 
 abbrev pub Of64Bits : List ℕ → Type 0

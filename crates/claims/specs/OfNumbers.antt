@@ -1,13 +1,13 @@
--- What is claimed of numbers: document 01's demands 1 to 9, over the promises that the functions' `ensures` are.
+-- What is claimed of numbers: demand 2, how a number is spelled, and what the source says of it, over the promises that the functions' `ensures` are.
 --
---   Accepts, Refuses, Excludes, Exhausts         demand 2, readers
---   Writes (by LaysExactly)                      demand 2, writers
---   Shortest, Most, mostBytes, zeroOf          how a number is spelled, in how many bytes, and zero
+--   Accepts, Refuses, Excludes, Exhausts             demand 2, readers
+--   Writes (by LaysExactly)                          demand 2, writers
+--   Shortest, Most, mostBytes, zeroOf                how a number is spelled, in how many bytes, and zero
 --   TwosComplement, Within, SignedForm, OneTooMany   how a signed number is spelled
---   WriteRead, ReadWrite, MoreBehind, SomeByte   round trips, and what the source calls prefix-secure and productive
---   SpecParse                                    the source's own definition
---   NumbersMet, NumbersOne                       an answer meets each promise, and no second
---   OfNumbers                                    all of it
+--   WriteRead, ReadWrite, MoreBehind, SomeByte       round trips, and what the source calls prefix-secure and productive
+--   SpecParse                                        the source's own definition
+--   NumbersMet, NumbersOne                           an answer meets each promise, and no second
+--   OfNumbers                                        all of it
 use Prim.Native.Nat.{ℕ, _+_, _-_, _*_, _/_, _%_, _^_, _≤_, _<_}
 use mathlib.Core.Path.{_≡_}
 use mathlib.Core.List.{List, [], _∷_, _++_}
@@ -31,21 +31,21 @@ use Rattle.groups.specs.Width.{read, tooMany}
 use Rattle.groups.specs.declared.Walked.{Walked}
 use Rattle.uleb128.specs.Unsigned as unsigned
 use Rattle.uleb128.specs.Promise.{ReadsU64, WritesU64}
-use Rattle.uleb128_rec.specs.Promise.{ReadsU64Rec, WritesU64Rec}
 use Rattle.uleb128.specs.declared.ReadU64.{ReadU64}
+use Rattle.uleb128_rec.specs.Promise.{ReadsU64Rec, WritesU64Rec}
 use Rattle.sleb128.specs.Signed as signed
 use Rattle.claims.specs.Kinds.{Kind, loop64, recursive64, unsigned32, signed64, Value, Reply, number, refuse, ReadsAs, width, form, OfWidth, WritesAs, TakesAs, Both}
 use Rattle.claims.specs.Table.{Row}
 use Rattle.claims.specs.Source.{specParse, specSerializeHelper}
 use Rattle.claims.specs.Try.{Starred}
 
--- 1. A reader accepts with v and n exactly when the bytes from the start begin with the shortest form of a number of the width, v is that
+-- A reader accepts with v and n exactly when the bytes from the start begin with the shortest form of a number of the width, v is that
 -- number and n the length of its form.
 abbrev pub Accepts : Kind → Type 0
 Accepts k = (s : List ℕ) (at : ℕ) (r : Reply k) → Bytes s → ReadsAs k s at r
     → (v : Value k) (n : Count) → (r ≡ number k v n) ↔ Begins (form k) (OfWidth k) s at v (n .0)
 
--- 2. It refuses by a number exactly when the row of that number holds; no two rows hold, and none where it accepts; and one holds or
+-- It refuses by a number exactly when the row of that number holds; no two rows hold, and none where it accepts; and one holds or
 -- it accepts.
 abbrev pub Refuses : Kind → Type 0
 Refuses k = (s : List ℕ) (at : ℕ) (r : Reply k) → Bytes s → ReadsAs k s at r
@@ -60,7 +60,7 @@ abbrev pub Exhausts : Kind → Type 0
 Exhausts k = (s : List ℕ) (at : ℕ) → Bytes s →
     ((why : Refusal) × Row (width k) s at why) ⊎ ((v : Value k) × (n : ℕ) × Begins (form k) (OfWidth k) s at v n)
 
--- 3. A writer answers the count and leaves exactly the form at the place and all else kept, or answers 5 and leaves every byte, the
+-- A writer answers the count and leaves exactly the form at the place and all else kept, or answers 5 and leaves every byte, the
 -- latter exactly when place + bytes needed > buffer length.
 abbrev pub LaysExactly : (bytes before : List ℕ) (at : ℕ) (r : Written) (after : List ℕ) → Type 0
 LaysExactly bytes before at r after =
@@ -73,7 +73,7 @@ abbrev pub Writes : Kind → Type 0
 Writes k = (v : Value k) (before : List ℕ) (at : ℕ) (r : Written) (after : List ℕ) → WritesAs k v before at r after
     → LaysExactly (form k v) before at r after
 
--- 4. The shortest unsigned form: one byte v if v < 128, else (v mod 128) + 128 followed by the form of v div 128.
+-- The shortest unsigned form: one byte v if v < 128, else (v mod 128) + 128 followed by the form of v div 128.
 abbrev pub Shortest : Type 0
 Shortest = (v : ℕ) → (v < 128 → unsigned.form v ≡ v ∷ []) × (128 ≤ v → unsigned.form v ≡ (v % 128 + 128) ∷ unsigned.form (v / 128))
 
@@ -93,7 +93,7 @@ zeroOf recursive64 = 0
 zeroOf unsigned32 = 0
 zeroOf signed64 = pos 0
 
--- 5. A signed form of k bytes has the value of its 7k bits in two's complement.
+-- A signed form of k bytes has the value of its 7k bits in two's complement.
 abbrev pub TwosComplement : Type 0
 TwosComplement = (g : List ℕ) →
     (digits g < 2 ^ (7 * length g - 1) → signed.i64 .value g ≡ pos (digits g))
@@ -116,7 +116,7 @@ pub record SignedForm (v : ℤ) : Type 0 where
 abbrev pub OneTooMany : Type 0
 OneTooMany = (g : List ℕ) → Group g → (tooMany signed.i64 g ≡ true) ↔ (length (signed.form (signed.i64 .value g)) < length g)
 
--- 7. Write then read gives the number back.
+-- Write then read gives the number back.
 abbrev pub WriteRead : Kind → Type 0
 WriteRead k = (v : Value k) (before : List ℕ) (at : ℕ) (n : Count) (after : List ℕ) (r : Reply k) → OfWidth k v
     → WritesAs k v before at (W.Bytes n) after → ReadsAs k after at r → r ≡ number k v n
@@ -136,7 +136,7 @@ abbrev pub SomeByte : Kind → Type 0
 SomeByte k = (s : List ℕ) (at : ℕ) (v : Value k) (n : Count) → Bytes s → ReadsAs k s at (number k v n)
     → (0 < n .0) × (at + n .0 ≤ length s)
 
--- 8. `spec_parse` gives what the reading gives, and nothing exactly where it refuses.
+-- `spec_parse` gives what the reading gives, and nothing exactly where it refuses.
 abbrev pub SpecParse : Type 0
 SpecParse = (s : List ℕ) → Bytes s →
     ((v n : ℕ) → (specParse s ≡ some (n, v)) ↔ (read unsigned.u64 s 0 ≡ gives (v, n)))
@@ -165,36 +165,36 @@ pub record NumbersOne : Type 0 where
   pub length : (k : Kind) (v : Value k) (r r′ : Count) → TakesAs k v r → TakesAs k v r′ → r ≡ r′
 
 pub record OfNumbers : Type 0 where
-  -- 1, 2. readers
+  -- readers
   pub accepts : (k : Kind) → Accepts k
   pub refuses : (k : Kind) → Refuses k
   pub excludes : (k : Kind) → Excludes k
   pub exhausts : (k : Kind) → Exhausts k
-  -- 3. writers
+  -- writers
   pub writes : (k : Kind) → Writes k
-  -- 4. lengths
+  -- lengths
   pub shortest : Shortest
   pub lengths : (k : Kind) (v : Value k) (n : Count) → TakesAs k v n → n .0 ≡ length (form k v)
   pub zero-takes-one : (k : Kind) → form k (zeroOf k) ≡ 0 ∷ []
   pub most : (k : Kind) → Most k
-  -- 5. signed forms
+  -- signed forms
   pub twos-complement : TwosComplement
   pub signed-form : (v : ℤ) → SignedForm v
   pub one-too-many : OneTooMany
-  -- 6. loop and recursive forms
+  -- loop and recursive forms
   pub read-alike : (s : List ℕ) (at : ℕ) (r r′ : ReadU64) → ReadsU64 s at r → ReadsU64Rec s at r′ → r ≡ r′
   pub write-alike : (v : ℕ) (s : List ℕ) (at : ℕ) (r r′ : Written) (out out′ : List ℕ) → WritesU64 v s at r out → WritesU64Rec v s at r′ out′
       → (r ≡ r′) × (out ≡ out′)
-  -- 7. round trips
+  -- round trips
   pub write-read : (k : Kind) → WriteRead k
   pub read-write : (k : Kind) → ReadWrite k
   pub more-behind : (k : Kind) → MoreBehind k
   pub some-byte : (k : Kind) → SomeByte k
-  -- 8. the source's definitions
+  -- the source's definitions
   pub source-parse : SpecParse
   pub source-serialize : (v : ℕ) → specSerializeHelper v ≡ unsigned.form v
-  -- 9. bytes to try
+  -- bytes to try
   pub starred : Starred
-  -- 10. an answer, and no second
+  -- an answer, and no second
   pub met : NumbersMet
   pub one : NumbersOne

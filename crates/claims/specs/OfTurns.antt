@@ -6,9 +6,9 @@
 use mathlib.Core.Path.{_≡_}
 use mathlib.Core.Logic.{_↔_}
 use lib.IntN.{ℤ, pos}
+use lib.Signed.{_<ℤ_}
 use Rattle.turns.specs.Turns.{Means}
 use Rattle.turns.specs.declared.Turn.{Turn}
-use lib.Signed.{_<ℤ_}
 use Rattle.turns.specs.declared.Turn.the-variants.{Tighten, Loosen, Hold}
 
 -- What a turn means: above zero is Tighten, below zero is Loosen, zero is Hold.

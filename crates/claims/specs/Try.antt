@@ -1,8 +1,8 @@
 -- Document 01, "Bytes to try": the rows marked *, as one table.
 --
---   Rows w   each of these bytes, read at the width w from place 0 on, gets this answer
+--   Rows w                    each of these bytes, read at the width w from place 0 on, gets this answer
 --   rows64, rows32, rowsI64   the rows at each width
---   Starred  the table
+--   Starred                   the table
 use Prim.Native.Nat.{ℕ, _-_, _^_}
 use mathlib.Core.List.{List, [], _∷_, _++_}
 use mathlib.Core.Path.{_≡_}

@@ -1,8 +1,11 @@
--- Which groups a width accepts: exactly those that spell a number below its limit.
+-- Which groups a width accepts: exactly those that spell a number below its limit, which is 128 to the most - 1, times top + 1.
 --
+--   group-length               a group is one byte longer than its run
 --   Spells w below small top   the width's rules say what spelling so asks for: its "one too many" and its last byte allowed
---   accepts                    what is spelled below the limit is accepted
+--   shortest                   a group whose last byte says less than small, and isn't one too many, is the spelling of what it says
+--   accepts                    what is spelled below the limit is a group that is accepted
 --   accepted                   what is accepted is spelled, and below the limit
+--   longer                     a last byte is one too many exactly where the spelling of what the group says is shorter than the group
 use Prim.Native.Nat.{ℕ, suc, _+_, _-_, _*_, _/_, _%_, _^_, _≤_, _<_}
 use mathlib.Core.Path.{_≡_, ap, sym, _∙_, subst}
 use mathlib.Core.List.{List, [], _∷_}

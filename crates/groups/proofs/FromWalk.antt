@@ -1,9 +1,20 @@
--- What a walk's answer tells of a reading, at any width of at most ten bytes.
+-- What a walk's answer tells of the bytes from a place on, and what a reading from there answers, at any width. A high byte is 128 or more.
 --
---   Sound w                 the most bytes are above 0, and only bytes below 128 are allowed there
---   Closing s at ..         the bytes from the place at on close: what `Walked::Closed` says
---   walk-tells                    what each answer of `walk` says
---   past, open, .. reads-.. the answer of a reading from it
+--   Sound w                             the most bytes are above 0, and only bytes below 128 are allowed at that length
+--   Opening s at high                   all the bytes from the place at on are high ones; their count is high, below ten
+--   Closing s at sum weight high last   a group stands at the place at: high ones, their count high, below ten, that sum to sum, and then last,
+--                                       below 128, that weighs weight
+--   Overrun s at                        from the place at on stand ten high bytes or more
+--   WalkTells s at r                    what a walk's answer r says: that the place is past the end, or one of the three
+--   walk-tells                          what a walk answers is so
+--   overrun-large                       as many high bytes as the most: refusal 2
+--   open-end                            only high bytes, fewer than the most: refusal 1
+--   closed-large                        such a group's last byte is at the greatest length and not allowed: refusal 2
+--   closed-many                         it isn't too large, and its last byte isn't the first and is one too many: refusal 3
+--   closed-number                       it isn't too large and has none too many: the value and the count
+--   closed-digits                       its digits are sum + weight * last
+--   closed-below                        sum is below weight
+--   closed-limit                        its digits are below 128 to the k, times top + 1, where high is at most k, and at k last is at most top
 use Prim.Native.Nat.{ℕ, _+_, _-_, _*_, _^_, _≤_, _<_}
 use mathlib.Core.Path.{_≡_, refl, sym, _∙_, subst}
 use mathlib.Core.List.{List}
@@ -79,13 +90,13 @@ module _ (s : List ℕ) (at : ℕ) where
 
 module _ {A : Type 0} (w : Width A) (sound : Sound w) (s : List ℕ) (at : ℕ) where
   -- as many high bytes as the width has bytes: the one at the greatest length is not allowed
-  pub overrun : at ≤ length s → w .most ≤ run (drop at s) → read w s at ≡ refused (by 2)
-  overrun h m =
+  pub overrun-large : at ≤ length s → w .most ≤ run (drop at s) → read w s at ≡ refused (by 2)
+  overrun-large h m =
       read-from w s at h ∙ row-large w (drop at s) (omega (arith, run-within (drop at s))) (omega arith)
       (sound .low (getD (drop at s) (w .most - 1) 0) (in-run (drop at s) (w .most - 1) (omega (arith, sound .some))))
 
-  pub open-short : {high : ℕ} → Opening s at high → high < w .most → read w s at ≡ refused (by 1)
-  open-short o m = read-from w s at (o .here) ∙ row-end w (drop at s) (o .all) (omega (arith, o .many))
+  pub open-end : {high : ℕ} → Opening s at high → high < w .most → read w s at ≡ refused (by 1)
+  open-end o m = read-from w s at (o .here) ∙ row-end w (drop at s) (o .all) (omega (arith, o .many))
 
   module _ {sum weight high last : ℕ} (c : Closing s at sum weight high last) where
     pub closed-large : high + 1 ≡ w .most → w .allowed last ≡ false → read w s at ≡ refused (by 2)

@@ -1,4 +1,20 @@
 -- The rows of the table: which test of `reading` holds when, over any width, and what is then answered.
+--
+--   closed-not-out              row 1's test fails where a byte is below 128,
+--   long-not-out                and where the run is at least the most bytes
+--   too-large                   row 2's test holds where all bytes before the greatest length are 128 or more, and the one there is not allowed
+--   short-not-large             it fails where the run is shorter
+--   too-many                    row 3's test holds where the last byte isn't the first, and is one too many
+--   first-not-many              it fails where the last byte is the first
+--   not-large                   row 2's test fails where the last byte comes within the greatest length, and is allowed if at that length
+--   large-is, many-is           what the tests of row 2 and of row 3 say of the bytes where they hold
+--   row-end                     fewer bytes than the most, each of 128 or more: refusal 1
+--   row-large                   a byte at the greatest length that is not allowed, all earlier ones 128 or more: refusal 2
+--   row-many                    a number that ends, isn't too large, and has a last byte one too many: refusal 3
+--   row-number                  one that has none too many: the value, and the count of the bytes through the first below 128
+--   read-past, read-from        reading from a place past the end is refusal 4, and from any other is reading the bytes from there on
+--   reading-cases, read-cases   a thing from either case of a reading: a number, or one of the refusals
+--   due-kept, due-passed        `Due b a` where b is a, and where b is b′ and `Due b′ a`
 use Prim.Native.Nat.{ℕ, _+_, _-_, _≤_, _<_}
 use mathlib.Core.Path.{_≡_, sym, _∙_}
 use mathlib.Core.List.{List}
@@ -12,8 +28,8 @@ use Rattle.words.specs.declared.Refusal.{Refusal}
 use Rattle.words.specs.declared.Refusal.the-variants.{End, Overflow, NotShortest, Place}
 use Rattle.words.proofs.Cases.{by-order, by-test, both-false, both-true}
 use Rattle.groups.specs.Group.{run}
-use Rattle.groups.proofs.Run.{run-within}
 use Rattle.groups.specs.Width.{Width, runsOut, tooLarge, tooMany, reading, read, Due}
+use Rattle.groups.proofs.Run.{run-within}
 
 module _ {A : Type 0} (w : Width A) where
   runs-out : (l : List ℕ) → run l ≡ length l → run l < w .most → runsOut w l ≡ true

@@ -1,4 +1,18 @@
--- Laws of `run`, of groups and of digits.
+-- Laws of `run`, of high bytes and of `digits`. A high byte is 128 or more.
+--
+--   run-low, run-high         a first byte below 128 makes the run 0, a high one makes it one longer than that of the rest
+--   run-within                the run is no longer than the bytes
+--   in-run, at-run            the bytes that it counts are high, and the one behind them is below 128
+--   run-more, run-ends        where the run is at least i, a high byte at i makes it longer, and one below 128 makes it i
+--   high-run, run-take-high   the first j bytes are high exactly where the run is at least j
+--   high-full, full-high      all the bytes are high exactly where the run is as long as they are
+--   digits-more               what a byte behind the others adds to the digits
+--   digits-below              the digits of n bytes are below 128 to the n
+--   digits-take               the digits of the first i + 1 bytes, from those of the first i
+--   digits-take-below         the digits of the first i bytes are below 128 to the i
+--   pow-up                    a higher power of 128 is no smaller
+--   below-limit               a number is below 128 to the k, times top + 1, where at most k bytes stand before its last one, and behind k
+--                             the last one says at most top
 use Prim.Native.Nat.{ℕ, zero, suc, _+_, _*_, _%_, _^_, _≤_, _<_}
 use mathlib.Core.Path.{_≡_, ap, _∙_}
 use mathlib.Core.List.{List, [], _∷_, _++_}
@@ -71,11 +85,11 @@ run-take-high l j h i lt =
     let k : i < j = omega arith in
     rw (getD-take j l i 0 k) (in-run l i (omega arith))
 
-pub all-high : (l : List ℕ) → High l → run l ≡ length l
-all-high l h = omega (arith, run-within l, high-run l (length l) (omega arith) (rw (take-length l) h))
+pub high-full : (l : List ℕ) → High l → run l ≡ length l
+high-full l h = omega (arith, run-within l, high-run l (length l) (omega arith) (rw (take-length l) h))
 
-pub high-all : (l : List ℕ) → length l ≤ run l → High l
-high-all l h = rw (take-length l) at (run-take-high l (length l) h)
+pub full-high : (l : List ℕ) → length l ≤ run l → High l
+full-high l h = rw (take-length l) at (run-take-high l (length l) h)
 
 -- the digits, a byte more
 pub digits-more : (g : List ℕ) (b : ℕ) → digits (g ++ b ∷ []) ≡ digits g + 128 ^ length g * (b % 128)

@@ -1,9 +1,25 @@
 -- What `spell` gives, as a relation: everything known of forms is proved by induction on it, for unsigned numbers and for
 -- both signs of signed ones at once.
 --
---   said below g        the number that a group's bytes spell
---   Spelled m g         g spells m: the last byte says what is left, once it is below small
---   spelled, spelled-unique     `spell` gives such a list, and there is no other
+--   say-below                    what seven bits say is below 128
+--   length-groups                `groups` gives as many bytes as it is asked for
+--   said below g                 the number that a group's bytes spell
+--   said-digits                  where not below zero, that is its digits
+--   say-say                      seven bits said twice are as they were
+--   say-high                     of a byte of 128 or more that says d, the seven bits said again are d
+--   group-bounds                 a group says at least what its last byte says, times that byte's weight, and less than one more, times it
+--   complements                  what bytes say at the two signs, and 1, add up to 128 to their count
+--   Spelled below small m g      g spells m: seven bits a byte, and once what is left is below small, a last byte that says it
+--   spelled, spelled-unique      `spell` gives such a list, and there is no other
+--   some-bytes                   it has some byte
+--   times-more                   a times the next power of 128 is 128 times as much as a times the power
+--   spelled-group                what spells a number is a group,
+--   spelled-said                 says that number,
+--   spelled-as-groups            and is what `groups` gives for its length
+--   spelled-laid                 so where that is laid down, it is
+--   spelled-short, short-small   it has at most k + 1 bytes exactly where the number is below small, times 128 to the k
+--   last-bounds                  the number is at least what the last byte says, times that byte's weight, and less than one more, times it
+--   last-small                   the last byte says less than small
 use Prim.Native.Nat.{ℕ, zero, suc, _+_, _*_, _/_, _%_, _^_, _≤_, _<_}
 use mathlib.Core.Path.{_≡_, refl, ap, sym, subst}
 use mathlib.Core.List.{List, [], _∷_}
@@ -12,11 +28,11 @@ use native.Mathlib.Nat.{mod-eq-of-lt, pow-succ', mul-assoc, mul-le-mul-left, mul
 use native.Mathlib.Omega.{arith}
 use borrow.Author.Tests.{lt-ltb, le-ltb}
 use lib.ListN.{length, getD}
+use Rattle.words.specs.Lays.{Lays}
 use Rattle.words.specs.declared.Written.{Written}
 use Rattle.words.proofs.Cases.{by-order}
 use Rattle.groups.specs.Group.{run, Group, one, more, digits}
 use Rattle.groups.specs.Form.{say, groups, spellings, spell}
-use Rattle.words.specs.Lays.{Lays}
 use Rattle.groups.proofs.Run.{run-low, run-high, pow-up}
 
 pub say-below : (below : Bool) (d : ℕ) → d < 128 → say below d < 128
@@ -115,16 +131,16 @@ module _ {below : Bool} {small : ℕ} (small-low : small ≤ 128) where
   spelled-said (last {m} p) = rw (say-low below m (omega arith)) (omega arith)
   spelled-said (byte {m} p r) = rw (say-high below (m % 128) (omega arith), spelled-said r) (omega arith)
 
-  pub spelled-groups : {m : ℕ} {g : List ℕ} → Spelled below small m g → g ≡ groups below (length g) m
+  pub spelled-as-groups : {m : ℕ} {g : List ℕ} → Spelled below small m g → g ≡ groups below (length g) m
   unfolding groups
-  spelled-groups (last {m} p) = let e : m % 128 ≡ m = mod-eq-of-lt (omega arith) in rw e
-  spelled-groups (byte {m} {g} p r) = rw (grown below (length g) m (some-bytes r), ← (spelled-groups r))
+  spelled-as-groups (last {m} p) = let e : m % 128 ≡ m = mod-eq-of-lt (omega arith) in rw e
+  spelled-as-groups (byte {m} {g} p r) = rw (grown below (length g) m (some-bytes r), ← (spelled-as-groups r))
 
   -- laying down as many groups of seven bits as it takes lays the spelling down
   pub spelled-laid : {m n at : ℕ} {g s out : List ℕ} {r : Written} → Spelled below small m g → n ≡ length g
       → Lays (groups below n m) s at r out → Lays g s at r out
   spelled-laid {at = at} {s = s} {out = out} {r = r} p e h =
-      subst (λ (b : List ℕ). Lays b s at r out) (rw e (sym (spelled-groups p))) h
+      subst (λ (b : List ℕ). Lays b s at r out) (rw e (sym (spelled-as-groups p))) h
 
   -- k + 1 bytes are enough exactly for what is below small times 128 to the k
   pub spelled-short : {m : ℕ} {g : List ℕ} (k : ℕ) → Spelled below small m g → m < small * 128 ^ k → length g ≤ suc k
@@ -134,10 +150,10 @@ module _ {below : Bool} {small : ℕ} (small-low : small ≤ 128) where
       let q : m / 128 < small * 128 ^ k = omega (arith, times-more small k) in
       omega (arith, spelled-short k r q)
 
-  pub small-enough : {m : ℕ} {g : List ℕ} (k : ℕ) → Spelled below small m g → length g ≤ suc k → m < small * 128 ^ k
-  small-enough k (last p) h = omega (arith, mul-le-mul-left small (pow-up 0 k (omega arith)))
-  small-enough zero (byte p r) h = absurd (omega (arith, some-bytes r))
-  small-enough (suc k) (byte {m} p r) h = omega (arith, times-more small k, small-enough k r (omega arith))
+  pub short-small : {m : ℕ} {g : List ℕ} (k : ℕ) → Spelled below small m g → length g ≤ suc k → m < small * 128 ^ k
+  short-small k (last p) h = omega (arith, mul-le-mul-left small (pow-up 0 k (omega arith)))
+  short-small zero (byte p r) h = absurd (omega (arith, some-bytes r))
+  short-small (suc k) (byte {m} p r) h = omega (arith, times-more small k, short-small k r (omega arith))
 
   -- the last byte says what is left behind the others
   pub last-bounds : {m : ℕ} {g : List ℕ} → Spelled below small m g

@@ -1,8 +1,16 @@
 -- A reading accepts exactly where a group that the width accepts stands at the place, whatever follows it.
 --
---   Stands w s at v n     such a group stands there, v is its value and n its length
---   reading-behind                more bytes behind a group change nothing
---   read-stands, stands-read      from the reading to the group, and back
+--   Stands w s at v n          such a group stands there, v is its value and n its length
+--   run-behind                 bytes behind a group leave its run as it is
+--   front-group                the bytes through the first below 128 are a group
+--   large-behind               bytes behind a group leave row 2's test as it is
+--   reading-behind             a group with bytes behind it is read by its own bytes: rows 2 and 3, else its value and length
+--   stands-read, read-stands   from the group to the reading, and back
+--   form-read                  where the bytes begin with a form that the width accepts, with its value, the number is read
+--   read-form                  and back, from a group that is such a form
+--   count-within               a group that stands so has at most the most bytes
+--   reading-count              the count that is given is that of the bytes through the first below 128
+--   reading-alone              where some byte is below 128, reading all the bytes is reading those through the first such
 use Prim.Native.Nat.{ℕ, suc, _+_, _-_, _≤_, _<_}
 use mathlib.Core.Path.{_≡_, refl, ap, sym, _∙_}
 use mathlib.Core.List.{List, [], _∷_, _++_, append-nil}
@@ -13,11 +21,12 @@ use lib.ListN.{length, getD, take, drop, take-append-drop, length-append, List·
 use lib.Seq.{take-append-seam, getD-drop}
 use Rattle.words.specs.Answer.{pick, Answer, gives, refused, by, Why}
 use Rattle.words.proofs.Cases.{by-order, clash}
+use Rattle.groups.specs.Begins.{Begins}
 use Rattle.groups.specs.Group.{Bytes, run, Group, one, more}
 use Rattle.groups.specs.Width.{Width, runsOut, tooLarge, tooMany, reading, read}
 use Rattle.groups.proofs.Run.{run-low, run-high, run-within, in-run}
 use Rattle.groups.proofs.Rows.{closed-not-out, short-not-large, too-large, row-end, read-past, read-from}
-use Rattle.groups.proofs.FromWalk.{Sound, overrun}
+use Rattle.groups.proofs.FromWalk.{Sound, overrun-large}
 use Rattle.groups.proofs.Exact.{group-length}
 
 pub record Stands {A : Type 0} (w : Width A) (s : List ℕ) (at : ℕ) (v : A) (n : ℕ) : Type 0 where
@@ -93,7 +102,7 @@ module _ {A : Type 0} (w : Width A) (s : List ℕ) (at : ℕ) where
         (λ l.
         by-order (run (drop at s)) (w .most)
         (λ m. apart (read-from w s at stands-here ∙ row-end w (drop at s) (omega (arith, run-within (drop at s))) m))
-        (λ m. apart (overrun w sound s at stands-here m)))
+        (λ m. apart (overrun-large w sound s at stands-here m)))
 
     bytes-from : Bytes (drop at s)
     bytes-from i = rw (getD-drop at s i 0) (bytes (at + i))
@@ -119,7 +128,25 @@ module _ {A : Type 0} (w : Width A) (s : List ℕ) (at : ℕ) where
           count = p .1;
         }
 
--- what is read takes no more than the most bytes, and at least one
+module _ {A : Type 0} (w : Width A) {form : A → List ℕ} {OfWidth : A → Type 0} (s : List ℕ) (at : ℕ) {v : A} {n : ℕ} where
+  pub form-read : Begins form OfWidth s at v n → Group (form v) × (tooLarge w (form v) ≡ false) × (tooMany w (form v) ≡ false) → w .value (form v) ≡ v
+      → read w s at ≡ gives (v, n)
+  form-read b a e = stands-read w s at (record {
+    here = b .here;
+    group = form v;
+    rest = b .rest;
+    begins = b .begins;
+    is-group = a .0;
+    not-large = a .1;
+    not-many = a .2;
+    value = sym e;
+    count = b .count;
+  })
+
+  pub read-form : (g : Stands w s at v n) → g .group ≡ form v → OfWidth v → Begins form OfWidth s at v n
+  read-form g f h = record { here = g .here; of-width = h; rest = g .rest; begins = g .begins ∙ rw f; count = g .count ∙ ap length f }
+
+-- what is read takes no more than the most bytes
 pub count-within : {A : Type 0} (w : Width A) {s : List ℕ} {at : ℕ} {v : A} {n : ℕ} → Sound w → Stands w s at v n → n ≤ w .most
 count-within w {n = n} sound g =
     by-order (w .most) n

@@ -1,4 +1,10 @@
--- What the loop that stores a group holds.
+-- What the loop that stores a group holds, and that in the end the group is laid down.
+--
+--   no-byte-laid                          bytes of count 0 are laid down in a buffer that is as it was
+--   Stored below more m s at out rest i   out is s with i bytes stored of the more + 1 that spell m; those that are left spell rest
+--   none-stored                           so it is with none stored, where there is room for all
+--   one-stored                            so it is with one more stored, of 128 or more
+--   all-stored                            with the last one stored, all are laid down
 use Prim.Native.Nat.{ℕ, suc, _+_, _-_, _/_, _%_, _≤_, _<_}
 use mathlib.Core.Path.{_≡_, refl, ap, sym, _∙_}
 use mathlib.Core.List.{List, [], _∷_, _++_}
@@ -8,20 +14,20 @@ use native.Mathlib.Numerals.{add-one}
 use native.Mathlib.Omega.{arith}
 use lib.ListN.{length, getD, take, drop, set, length-set}
 use lib.Seq.{paste, paste-zero, paste-suc, take-length, getD-drop, drop-drop}
+use Rattle.words.specs.Lays.{Lays}
 use Rattle.words.specs.declared.Count.{Count}
 use Rattle.words.specs.declared.Written.the-variants.{Bytes}
-use Rattle.groups.specs.Form.{say, groups}
-use Rattle.words.specs.Lays.{Lays}
 use Rattle.words.proofs.Lays.{fits-there}
+use Rattle.groups.specs.Form.{say, groups}
 use Rattle.groups.proofs.Spelling.{length-groups}
 
 -- all of the bytes pasted are the bytes laid down
 pasted-all : (bytes s : List ℕ) (at n : ℕ) → n ≡ length bytes → paste s at bytes n ≡ take at s ++ bytes ++ drop (at + length bytes) s
 pasted-all bytes s at n e = rw (e, take-length bytes)
 
-pub none-laid : (below : Bool) (m : ℕ) (s : List ℕ) (at : ℕ) (n : Count) → n .0 ≡ 0 → at ≤ length s
+pub no-byte-laid : (below : Bool) (m : ℕ) (s : List ℕ) (at : ℕ) (n : Count) → n .0 ≡ 0 → at ≤ length s
     → Lays (groups below (n .0) m) s at (Bytes n) s
-none-laid below m s at n e h =
+no-byte-laid below m s at n e h =
     let z : length (groups below (n .0) m) ≡ 0 = length-groups below (n .0) m ∙ e in
     fits-there (groups below (n .0) m) s at n (rw z (omega arith)) (e ∙ sym z)
     (paste-zero s at (groups below (n .0) m) ∙ pasted-all (groups below (n .0) m) s at 0 (sym z))

@@ -1,4 +1,15 @@
--- The walk from a start on: what its loop holds, and what its answers say of a reading at any width of at most ten bytes.
+-- The walk from a start on: what its loop holds, and what is answered at each way out of it. A high byte is 128 or more.
+--
+--   WalkedSoFar s at place high sum weight   high ones stand from the place at to place, their count high, nine at most; they sum to sum, and
+--                                            the next one weighs weight
+--   byte-at, byte-inside                     what stands at place in s is at high among the bytes from the place at on, and within them
+--   none-walked                              so it is at the start, with no byte
+--   part-fits, weight-fits                   with eight of them at most, the next sum is below 2 to the 63 and the next weight below 2 to the 64
+--   one-walked                               so it is behind one high byte more
+--   walk-closes                              a byte below 128: `Closed`
+--   walk-overruns                            a tenth high byte: `Long`
+--   walk-runs-dry                            the end of the bytes: `Open`
+--   walk-past                                a start past the end: `Past`
 use Prim.Native.Nat.{ℕ, suc, _+_, _*_, _%_, _^_, _≤_, _<_}
 use mathlib.Core.Path.{_≡_, refl, _∙_}
 use mathlib.Core.List.{List}

@@ -1,7 +1,7 @@
 -- Document 01's acceptance, over any way to spell numbers: a reader accepts exactly when the bytes from the start begin with
 -- the shortest form of a number of the width, and gives that number and its count of bytes.
 --
---   Begins form limit s at v n   from the place at on, s begins with the form of v, a number of the width, n bytes long
+--   Begins form OfWidth s at v n   from the place at on, s begins with the form of v, a number of the width, n bytes long
 use Prim.Native.Nat.{ℕ, _≤_}
 use mathlib.Core.List.{List, _++_}
 use mathlib.Core.Path.{_≡_}

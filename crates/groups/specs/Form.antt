@@ -1,9 +1,9 @@
 -- How bytes spell a number, seven bits a byte, lowest first, all but the last with 128 added. Below zero each seven bits are
 -- those of the two's complement: with m for -v-1, 127 less those of m.
 --
---   say below d          seven bits, or below zero their complement
---   groups below n m     n bytes that spell m
---   spell below small m  as many bytes as it takes until what is left is below small; `spellings`: the same, over a bound on how many there can be
+--   say below d           seven bits, or below zero their complement
+--   groups below n m      n bytes that spell m
+--   spell below small m   as many bytes as it takes until what is left is below small; `spellings`: the same, over a bound on how many there can be
 use Prim.Native.Nat.{ℕ, zero, suc, _+_, _-_, _/_, _%_}
 use mathlib.Core.List.{List, [], _∷_}
 use mathlib.Core.Bool.{Bool, true, false}

@@ -1,22 +1,23 @@
 -- What the functions of this crate promise.
 --
---   walked s at       how the bytes of s from the place at on go: past the end; all high and fewer than ten; ten high ones; or
---                     high ones closed by one below 128, with what the high ones sum to and what the closing one weighs
---   Walks s at r      walking them answers r
+--   walked s at                   how the bytes of s from the place at on go: past the end; all high and fewer than ten; ten high ones; or
+--                                 high ones closed by one below 128, with what the high ones sum to and what the closing one weighs
+--   walking l                     the same of all the bytes l
+--   Walks s at r                  walking them answers r
 --   Stores m below n s at r out   n bytes that spell m are laid down at this place of s, or none
 use Prim.Native.Nat.{ℕ, _^_}
 use mathlib.Core.List.{List}
 use mathlib.Core.Path.{_≡_}
+use mathlib.Core.Bool.{Bool}
 use lib.Dec.{leb, ltb, eqb}
 use lib.ListN.{length, getD, take, drop}
 use Rattle.words.specs.Answer.{pick}
+use Rattle.words.specs.Lays.{Lays}
+use Rattle.words.specs.declared.Written.{Written}
 use Rattle.groups.specs.Group.{run, digits}
+use Rattle.groups.specs.Form.{groups}
 use Rattle.groups.specs.declared.Walked.{Walked}
 use Rattle.groups.specs.declared.Walked.the-variants.{Past, Open, Long, Closed}
-use mathlib.Core.Bool.{Bool}
-use Rattle.words.specs.declared.Written.{Written}
-use Rattle.groups.specs.Form.{groups}
-use Rattle.words.specs.Lays.{Lays}
 
 unfoldable pub walking : List ℕ → Walked
 walking l =

@@ -1,13 +1,13 @@
 -- Document 01, "When the number desk refuses": reading is its table, over any width. Below, l is the bytes from the start on.
 --
---   Width A        what a width fixes for numbers of type A
---   runsOut w l    row 1: fewer bytes than the most, and each is 128 or more
---   tooLarge w l   row 2: all earlier bytes are 128 or more, and the byte at the greatest length is not allowed there
---   tooMany w l    row 3: the last byte isn't the first, and is one too many
---   reading w l    the rows in their order; else the value and the count of the bytes through the first below 128
---   read w s at    reading s from the place at on
---   Due b a        the answer that is given, a, is the one that is due, b
---   Reads w s at a what a reader of the width promises: a is what the table says of s from the place at on
+--   Width A          what a width fixes for numbers of type A
+--   runsOut w l      row 1: fewer bytes than the most, and each is 128 or more
+--   tooLarge w l     row 2: all earlier bytes are 128 or more, and the byte at the greatest length is not allowed there
+--   tooMany w l      row 3: the last byte isn't the first, and is one too many
+--   reading w l      the rows in their order; else the value and the count of the bytes through the first below 128
+--   read w s at      reading s from the place at on
+--   Due b a          the answer that is given, a, is the one that is due, b
+--   Reads w s at a   what a reader of the width promises: a is what the table says of s from the place at on
 use Prim.Native.Nat.{ℕ, _+_, _-_}
 use mathlib.Core.List.{List}
 use mathlib.Core.Bool.{Bool, not}

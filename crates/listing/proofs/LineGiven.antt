@@ -1,8 +1,9 @@
 -- What a listing's answer says of the text that is left.
 --
---   LineGiven s g n g′ after   the first n bytes of the buffer are a line: behind it stands the rest of the text, and there the rank is lower
---   line-given                  what a line that was given is
---   nothing-left          where none was given no text is left
+--   LineGiven s g n g′ after   the text left at the stage g is the first n bytes of the buffer and what is left at g′, a stage that a listing
+--                              comes to, of lower rank
+--   line-given                 so it is where a line was given
+--   no-text-left               where Ended was answered, and the buffer has room for a line, no text is left
 use Prim.Native.Nat.{ℕ, _≤_, _<_}
 use mathlib.Core.Path.{_≡_, ap, sym, _∙_}
 use mathlib.Core.List.{List, [], _++_}
@@ -10,6 +11,7 @@ use native.Mathlib.Omega.{arith}
 use borrow.Author.Tests.{lt-ltb, le-ltb}
 use lib.ListN.{length, take, drop, length-append}
 use lib.Seq.{take-append-seam}
+use Rattle.words.specs.Answer.{by}
 use Rattle.words.specs.declared.Count.{Count}
 use Rattle.words.proofs.Cases.{by-order}
 use Rattle.listing.specs.Listing.{Stage, Coming, line, over, refuses, next, lineRoom}
@@ -17,8 +19,7 @@ use Rattle.listing.specs.Promise.{meansListing, meansNext, asked, counte
 use Rattle.listing.specs.declared.Listing.{Listing}
 use Rattle.listing.specs.declared.Next.{Next}
 use Rattle.listing.specs.declared.Next.the-variants as X
-use Rattle.words.specs.Answer.{by}
-use Rattle.listing.proofs.TextLeft.{Fine, left, rank, Left, none, more, coming}
+use Rattle.listing.proofs.TextLeft.{Fine, left, rank, Left, none, more, next-left}
 
 pub record LineGiven (s : List ℕ) (g : Stage) (n : ℕ) (g′ : Stage) (after : List ℕ) : Type 0 where
   pub within : n ≤ length after
@@ -54,8 +55,8 @@ module _ {s : List ℕ} {g : Listing} (fine : Fine s (meansListing g)) {before a
       let f : line (n .0) (meansListing g′) ≡ refuses (by 5) = rw (lt-ltb (length before) lineRoom h) at answer in
       let z : _≡_ {A = ℕ} 0 1 = cc in absurd (omega arith))
       (λ h.
-      line-took (next s (meansListing g)) before (coming s (meansListing g) fine) (rw (le-ltb (length before) lineRoom h) at answer)
+      line-took (next s (meansListing g)) before (next-left s (meansListing g) fine) (rw (le-ltb (length before) lineRoom h) at answer)
       (rw (le-ltb (length before) lineRoom h) at (e .leaves)))
 
-  pub nothing-left : lineRoom ≤ length before → GivesLine g s before X.Ended after → left s (meansListing g) ≡ []
-  nothing-left h e = over-left (next s (meansListing g)) (coming s (meansListing g) fine) (rw (le-ltb (length before) lineRoom h) at (e .answer))
+  pub no-text-left : lineRoom ≤ length before → GivesLine g s before X.Ended after → left s (meansListing g) ≡ []
+  no-text-left h e = over-left (next s (meansListing g)) (next-left s (meansListing g) fine) (rw (le-ltb (length before) lineRoom h) at (e .answer))

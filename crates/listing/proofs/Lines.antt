@@ -1,28 +1,30 @@
--- What comes next, from what was laid down in the buffer.
+-- What is given, from what comes next and what was laid down in the buffer; and that a row fits there.
 --
---   line-fronts         the line that comes next, put to the buffer's front, is given
---   line-comes          so it is if it fits into `lineRoom` bytes and was laid down there
---   line-none, refuses  nothing is given, or a refusal is, and the buffer is kept; line-no-room where the buffer is too small for a line
---   row-fits       a row of numbers of 64 bits fits; fault-short: so short is the name of a fault
---   other-fault    a fault that isn't not-shortest is an overflow
+--   line-no-room              a buffer too small for a line is refused by 5, and kept
+--   line-fronts               in any other, the line that comes next, put to the buffer's front, is given
+--   line-comes                so it is if it has at most `lineRoom` bytes and was laid down at place 0
+--   line-none, line-refused   where nothing comes next, or a refusal, that is answered, and the buffer is kept
+--   row-fits                  a row of two numbers of 64 bits and a word of at most 12 bytes has at most `lineRoom` bytes
+--   fault-short               the word for a fault has at most 12 bytes
+--   other-fault               the word for a fault that isn't not-shortest is overflow
 use Prim.Native.Nat.{ℕ, suc, _^_, _≤_, _<_}
 use mathlib.Core.Path.{_≡_, ap, subst}
 use mathlib.Core.List.{List, [], _∷_, _++_}
 use native.Mathlib.Omega.{arith}
 use borrow.Author.Tests.{lt-ltb, le-ltb, eqb-true}
-use lib.Dec.{eqb}
-use lib.ListN.{length, drop, length-append}
 use denote.Enum.Declared.{tagOf}
 use denote.Struct.Field.{Field}
 use types.Run.{OneOf, miss}
+use lib.Dec.{eqb}
+use lib.ListN.{length, drop, length-append}
 use Rattle.words.specs.Answer.{pick, because, Why, numberIn}
 use Rattle.words.specs.Refusal.{numberOf}
-use Rattle.words.proofs.Cases.{by-test}
-use Rattle.words.proofs.OneNumber.{same-refusal}
 use Rattle.words.specs.declared.Count.{Count}
 use Rattle.words.specs.declared.Refusal.{Refusal}
-use Rattle.words.proofs.Refusal.{parts, the-type}
 use Rattle.words.specs.declared.Refusal.the-variants.{NoRoom, NotShortest}
+use Rattle.words.proofs.Cases.{by-test}
+use Rattle.words.proofs.OneNumber.{same-refusal}
+use Rattle.words.proofs.Refusal.{parts, the-type}
 use Rattle.texts.specs.Texts.{ascii, LaysText}
 use Rattle.texts.proofs.Decimals.{at-most-20}
 use Rattle.texts.proofs.LaysText.{front-laid, front-count}

@@ -4,7 +4,9 @@
 use Prim.Native.Nat.{ℕ}
 use mathlib.Core.Path.{_≡_, refl}
 use native.Mathlib.Omega.{arith}
+use Rattle.words.specs.Answer.{numberIn}
 use Rattle.words.proofs.OneNumber.{refusalOf, refusal-back}
+use Rattle.words.proofs.OneMeaning.{same-by}
 use Rattle.blocks.specs.Block.{refuses}
 use Rattle.listing.specs.Listing as I
 use Rattle.listing.specs.Listing.{Stage, Coming}
@@ -13,8 +15,6 @@ use Rattle.listing.specs.declared.Listing.{Listing}
 use Rattle.listing.specs.declared.Listing.the-variants as G
 use Rattle.listing.specs.declared.Next.{Next}
 use Rattle.listing.specs.declared.Next.the-variants as X
-use Rattle.words.specs.Answer.{numberIn}
-use Rattle.words.proofs.OneMeaning.{same-by}
 
 pub same-next : (r r′ : Next) → meansNext r ≡ meansNext r′ → r ≡ r′
 same-next = same-by meansNext back-next is

@@ -1,10 +1,11 @@
 -- How much of a listing's text is left at a stage, and what comes next of it.
 --
 --   StartWithin s p   the place p is a start of the block s, which is within the limit
---   Fine s g       a stage that a listing of s comes to: its top, such a start, or its end
---   left s g       the text that is left there; rank s g: more than the count of the lines that are left
---   Left s g x     x is what comes next: nothing, where no text is left; or a line, and behind it the rest of the text and a lower rank
---   coming         so it is at every stage that a listing comes to
+--   Fine s g          a stage that a listing of s comes to: its top, such a start, or its end
+--   left s g          the text that is left there
+--   rank s g          at least the count of the lines that are left there
+--   Left s g x        x is what comes next: nothing, where no text is left; or a line, and behind it the rest of the text and a lower rank
+--   next-left         so it is at every stage that a listing comes to
 use Prim.Native.Nat.{ℕ, _+_, _-_, _≤_, _<_}
 use mathlib.Core.Path.{_≡_, refl, sym, _∙_}
 use mathlib.Core.List.{List, [], _∷_, _++_, append-nil}
@@ -13,8 +14,8 @@ use borrow.Author.Tests.{lt-ltb, le-ltb}
 use lib.ListN.{length, drop, length-drop}
 use Rattle.words.specs.Answer.{Answer, gives, refused}
 use Rattle.words.proofs.Cases.{by-order}
-use Rattle.groups.specs.Width.{reading}
 use Rattle.texts.specs.Texts.{ascii}
+use Rattle.groups.specs.Width.{reading}
 use Rattle.uleb128.specs.Unsigned.{u64}
 use Rattle.blocks.specs.Block.{unsigned, valued, says, blockLimit}
 use Rattle.blocks.specs.GroupsAndTail.{Start, cut}
@@ -67,14 +68,14 @@ at-start s p b (a-group g k) =
     rw (group-says k Unsigned (b .short) (b .start), group-line (reading u64 g) (length g) p)
     (more (groupRow p g) (at (p + length g)) (record { short = b .short; start = next-start k }) (rw (group-cut k)) (omega (arith, here-long k, here-within k)))
 
-pub coming : (s : List ℕ) (g : Stage) → Fine s g → Left s g (next s g)
+pub next-left : (s : List ℕ) (g : Stage) → Fine s g → Left s g (next s g)
 unfolding text
-coming s top fine =
+next-left s top fine =
     by-order blockLimit (length s)
     (λ long. rw (lt-ltb blockLimit (length s) long) (more (ascii "refused 7\n") ended tt (rw (lt-ltb blockLimit (length s) long)) (omega arith)))
     (λ short.
     rw (le-ltb blockLimit (length s) short)
     (more (ascii "place what value\n") (at 0) (record { short = short; start = front-start s })
     (rw (le-ltb blockLimit (length s) short)) (omega arith)))
-coming s (at p) fine = at-start s p fine (from-start (fine .start))
-coming s ended fine = none refl
+next-left s (at p) fine = at-start s p fine (from-start (fine .start))
+next-left s ended fine = none refl

@@ -1,20 +1,20 @@
 -- Document 01, "Bytes to try": the listing of a block, as bytes.
 --
---   row p what v      the line `p what v`
---   fault k           the word for the fault of a group, 2 or 3
---   groupRow p g      that of the group g at the place p: its number, or else its fault and its length; `rowOf`: from its reading
---   rows p gs t       those of the groups gs and of the tail t, one after another, from the place p on
---   text s            the whole listing of an input s: the header and the rows; above the limit the one line `refused 7`
---   lineRoom         a buffer of so many bytes holds every line
---   Stage             how far a listing has come: at its top, at a place of the block, or ended
---   Coming, next s g  what comes next: a line and the stage behind it, nothing, or a refusal; `lineOf`: from what a step says
+--   row p what v       the line `p what v`
+--   fault k            the word for the fault of a group, 2 or 3
+--   groupRow p g       that of the group g at the place p: its number, or else its fault and its length; `rowOf`: from its reading
+--   rows p gs t        those of the groups gs and of the tail t, one after another, from the place p on
+--   text s             the whole listing of an input s: the header and the rows; above the limit the one line `refused 7`
+--   lineRoom           a buffer of so many bytes holds every line
+--   Stage              how far a listing has come: at its top, at a place of the block, or ended
+--   Coming, next s g   what comes next: a line and the stage behind it, nothing, or a refusal; `lineOf`: from what a step says
 use Prim.Native.Nat.{ℕ, _+_}
 use mathlib.Core.List.{List, [], _∷_, _++_}
 use lib.Dec.{ltb, eqb}
 use lib.ListN.{length}
 use Rattle.words.specs.Answer.{pick, Answer, gives, refused, Why, numberIn}
-use Rattle.groups.specs.Width.{reading}
 use Rattle.texts.specs.Texts.{ascii, decimal}
+use Rattle.groups.specs.Width.{reading}
 use Rattle.uleb128.specs.Unsigned.{u64}
 use Rattle.blocks.specs.Block.{unsigned, signed, Stepped, number, gap, tail, finished, stepping, blockLimit}
 use Rattle.blocks.specs.Block as B

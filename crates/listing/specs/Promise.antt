@@ -1,9 +1,9 @@
 -- What the functions of this crate promise.
 --
 --   meansListing, meansNext   what a listing and an answer say; a line is told by the count of its bytes
---   asked              what comes next where the buffer has so many bytes: 5 if they are too few for a line
---   counted, fronted   its count of bytes, and the buffer afterwards: the line's bytes are its first, all else is kept
---   GivesLine          what follows on a listing of the block s
+--   asked                     what comes next where the buffer has so many bytes: 5 if they are too few for a line
+--   counted, fronted          its count of bytes, and the buffer afterwards: the line's bytes are its first, all else is kept
+--   GivesLine                 what follows on a listing of the block s
 use Prim.Native.Nat.{ℕ}
 use mathlib.Core.List.{List, _++_}
 use mathlib.Core.Path.{_≡_}

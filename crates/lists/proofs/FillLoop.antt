@@ -1,4 +1,12 @@
 -- The second pass: what its loop holds, over the numbers that are left of the block.
+--
+--   Poured s old out at count   the count numbers in front of the start at are stored in the slice, which was old and is out, and there is room
+--                               for what is left
+--   none-poured                 at first, none, where the block's numbers fit
+--   one-fits                    there is room for a number that stands at the start,
+--   one-poured                  which, stored, is one more
+--   no-fault                    no fault is left
+--   all-poured                  at the end of the block, strict reading answers the count, and the slice afterwards is out
 use Prim.Native.Nat.{ℕ, _+_, _≤_, _<_}
 use mathlib.Core.Path.{_≡_, refl, ap, _∙_}
 use mathlib.Core.List.{List}
@@ -14,8 +22,8 @@ use Rattle.lists.specs.Inner.{ahead, Room, Fits, Behind}
 use Rattle.lists.specs.Promise.{ReadsStrict}
 use Rattle.lists.specs.declared.Numbers.{Numbers}
 use Rattle.lists.specs.declared.ReadList.the-variants.{Filled}
-use Rattle.lists.proofs.ScanLoop.{Counted, none-counted, one-counted, nothing-left, all-counted}
-use Rattle.lists.proofs.StrictAnswers.{answered, counted-room}
+use Rattle.lists.proofs.ScanLoop.{Counted, none-counted, one-counted, all-counted, no-numbers-left}
+use Rattle.lists.proofs.StrictAnswers.{counted-room, strict-answer}
 
 -- the numbers stored one after another from the i-th on
 abbrev poured : Answer (List ℕ) → List ℕ → ℕ → List ℕ
@@ -69,5 +77,5 @@ module _ (s old : List ℕ) (fits : Fits s (length old)) where
 
     pub all-poured : length s ≤ at → (n : Numbers) → n .0 ≡ count → ReadsStrict s old (Filled n) out
     all-poured h n e =
-        answered s old (fits .short) (ap gives e ∙ all-counted s (g .counts) h ∙ counted-room (numbers s) (length old) (fits .enough))
-        ((rw (nothing-left s (g .counts) h) at (g .left)) ∙ filling-room (numbers s) old (fits .enough))
+        strict-answer s old (fits .short) (ap gives e ∙ all-counted s (g .counts) h ∙ counted-room (numbers s) (length old) (fits .enough))
+        ((rw (no-numbers-left s (g .counts) h) at (g .left)) ∙ filling-room (numbers s) old (fits .enough))

@@ -1,4 +1,12 @@
 -- Laying a list's forms down one after another: what the loop holds, from what a writer of one number promises.
+--
+--   LaidSoFar ns s at out to i   the forms of the first i numbers are laid down from the place at up to the place to
+--   none-of-list                 at first, none
+--   room-next                    there is room for the form of the next number,
+--   one-of-list                  which, laid down, is one more
+--   all-of-list                  behind the last number, all forms are laid down, with the count of the bytes between the two places
+--   list-too-long                a list of more numbers than the limit is refused by 7
+--   list-laid                    any other is written by laying its forms down
 use Prim.Native.Nat.{ℕ, _+_, _-_, _≤_, _<_}
 use mathlib.Core.Path.{_≡_, refl, ap, sym, _∙_}
 use mathlib.Core.List.{List, []}
@@ -6,11 +14,11 @@ use native.Mathlib.Omega.{arith}
 use borrow.Author.Tests.{lt-ltb, le-ltb}
 use lib.ListN.{length, getD, drop}
 use lib.Seq.{sets, sets-eq, length-sets}
+use Rattle.words.specs.Lays.{Lays}
 use Rattle.words.specs.declared.Count.{Count}
 use Rattle.words.specs.declared.Refusal.the-variants.{TooLong}
 use Rattle.words.specs.declared.Written.{Written}
 use Rattle.words.specs.declared.Written.the-variants.{Bytes, Refused}
-use Rattle.words.specs.Lays.{Lays}
 use Rattle.words.proofs.Lays.{fits-there, sets-append}
 use Rattle.uleb128.specs.Unsigned.{form}
 use Rattle.lists.specs.Lists.{forms, listLimit}
@@ -26,16 +34,16 @@ pub record LaidSoFar (ns s : List ℕ) (at : ℕ) (out : List ℕ) (to i : ℕ) 
   pub left : sets out to (forms (drop i ns)) ≡ sets s at (forms ns)
 
 module _ (ns s : List ℕ) (at : ℕ) (room : at + length (forms ns) ≤ length s) where
-  pub none-laid : LaidSoFar ns s at s at 0
-  none-laid = record { within = omega arith; kept = refl; behind = omega arith; ends = refl; left = refl }
+  pub none-of-list : LaidSoFar ns s at s at 0
+  none-of-list = record { within = omega arith; kept = refl; behind = omega arith; ends = refl; left = refl }
 
   module _ {out : List ℕ} {to i : ℕ} (g : LaidSoFar ns s at out to i) where
     pub room-next : i < length ns → to + length (form (getD ns i 0)) ≤ length out
     room-next h = omega (arith, g .ends, g .kept, length-next ns i h)
 
-    pub one-laid : i < length ns → {after : List ℕ} {n : ℕ} → after ≡ sets out to (form (getD ns i 0)) → n ≡ length (form (getD ns i 0))
+    pub one-of-list : i < length ns → {after : List ℕ} {n : ℕ} → after ≡ sets out to (form (getD ns i 0)) → n ≡ length (form (getD ns i 0))
         → LaidSoFar ns s at after (to + n) (i + 1)
-    one-laid h {after} {n} e f =
+    one-of-list h {after} {n} e f =
         record {
           within = omega arith;
           kept = ap length e ∙ length-sets out to (form (getD ns i 0)) ∙ g .kept;
@@ -46,8 +54,8 @@ module _ (ns s : List ℕ) (at : ℕ) (room : at + length (forms ns) ≤ length 
               ∙ ap (sets out to) (sym (forms-next ns i h)) ∙ g .left);
         }
 
-    pub all-laid : length ns ≤ i → (n : Count) → n .0 ≡ to - at → Lays (forms ns) s at (Bytes n) out
-    all-laid h n e =
+    pub all-of-list : length ns ≤ i → (n : Count) → n .0 ≡ to - at → Lays (forms ns) s at (Bytes n) out
+    all-of-list h n e =
         let z : forms (drop i ns) ≡ [] = forms-end ns i (g .within) h in
         fits-there (forms ns) s at n room (omega (arith, g .ends, g .behind, ap length z))
         ((rw z at (g .left)) ∙ sets-eq (forms ns) s at room)

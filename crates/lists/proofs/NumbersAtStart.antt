@@ -1,4 +1,10 @@
 -- What a step from a start before the block's end says of the numbers that are left there.
+--
+--   Possible x      x is an unsigned number, a gap or a tail
+--   pass-possible   a step by the unsigned rule says one of these
+--   pass-tail       where it says a tail, the first fault of what is left is 1
+--   pass-gap        where it says a gap, the first fault of what is left is the gap's
+--   pass-number     where it says a number, that is the first of what is left, and a start stands behind it
 use Prim.Native.Nat.{ℕ, _+_}
 use mathlib.Core.Path.{_≡_, refl, _∙_}
 use mathlib.Core.List.{List}
@@ -6,11 +12,11 @@ use native.Mathlib.Omega.{arith}
 use lib.ListN.{length, drop, length-drop}
 use Rattle.words.specs.Answer.{Answer, gives, refused, by, Why}
 use Rattle.groups.specs.Width.{reading}
-use Rattle.groups.proofs.Run.{all-high}
+use Rattle.groups.proofs.Run.{high-full}
 use Rattle.uleb128.specs.Unsigned.{u64}
 use Rattle.blocks.specs.Block.{unsigned, signed, Stepped, number, gap, tail, finished, refuses, valued, says, stepping}
-use Rattle.blocks.specs.declared.Rule.the-variants.{Unsigned}
 use Rattle.blocks.specs.GroupsAndTail.{TailAt}
+use Rattle.blocks.specs.declared.Rule.the-variants.{Unsigned}
 use Rattle.blocks.proofs.FromStart.{GroupHere, AtStart, the-end, a-tail, a-group, from-start, here-long, next-start, group-cut, tail-says, group-says}
 use Rattle.lists.specs.Strict.{joined, numbersOf, numbers}
 use Rattle.lists.specs.Inner.{ahead, StartsBefore, Behind}
@@ -67,7 +73,7 @@ module _ (s : List ℕ) (p : ℕ) (here : StartsBefore s p) where
 
   pub pass-tail : {m q : ℕ} → tail m q ≡ stepping Unsigned s p → numbers (drop p s) ≡ refused (by 1)
   pass-tail e =
-      by-step (λ k. numbers-tail (drop p s) (all-high (drop p s) (k .high)) (omega (arith, length-drop p s, here .before-end)))
+      by-step (λ k. numbers-tail (drop p s) (high-full (drop p s) (k .high)) (omega (arith, length-drop p s, here .before-end)))
       (λ g k. said-no-tail (reading u64 g) (length g) p (e ∙ at-group g k))
 
   numbers-here : (g : List ℕ) → GroupHere s p g → numbers (drop p s) ≡ joined (reading u64 g) (numbers (drop (p + length g) s))

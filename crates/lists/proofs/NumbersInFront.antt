@@ -1,4 +1,8 @@
--- The numbers of a block, by what stands at its front: nothing is left, a tail is, or a group stands in front.
+-- The numbers of a block, by what stands at its front: a group, a tail, or nothing.
+--
+--   numbers-group   with a group in front, they are its number and those of what is behind it, or the first fault of both
+--   numbers-tail    a block that is all tail has the fault 1
+--   numbers-none    an empty block has no numbers, and no fault
 use Prim.Native.Nat.{ℕ, _+_, _<_}
 use mathlib.Core.Path.{_≡_, refl}
 use mathlib.Core.List.{List, [], _∷_}

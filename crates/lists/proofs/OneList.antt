@@ -5,10 +5,10 @@ use Prim.Native.Nat.{ℕ}
 use mathlib.Core.Path.{_≡_, refl, ap}
 use native.Mathlib.Omega.{arith}
 use Rattle.words.proofs.OneNumber.{refusal-back}
+use Rattle.words.proofs.OneMeaning.{same-by, back}
 use Rattle.lists.specs.Promise.{meansReadList}
 use Rattle.lists.specs.declared.ReadList.{ReadList}
 use Rattle.lists.specs.declared.ReadList.the-variants as L
-use Rattle.words.proofs.OneMeaning.{same-by, back}
 
 pub same-list : (r r′ : ReadList) → meansReadList r ≡ meansReadList r′ → r ≡ r′
 same-list =

@@ -1,4 +1,12 @@
 -- The first pass: what its loop holds, over the numbers that are left of the block.
+--
+--   Counted s at count   in a block within the limit, count numbers stand in front of the start at
+--   none-counted         none stands in front of place 0
+--   start-here           if the block doesn't end there, at is a start before its end
+--   one-counted          a number that stands at the start is one more, in front of the start behind it
+--   fault-found          the first fault of what is left is that of the block
+--   no-numbers-left      at the end of the block no number is left,
+--   all-counted          and the block has count numbers
 use Prim.Native.Nat.{ℕ, _+_, _≤_, _<_}
 use mathlib.Core.Path.{_≡_, refl, ap, sym, _∙_}
 use mathlib.Core.List.{List, []}
@@ -57,8 +65,8 @@ module _ (s : List ℕ) where
     pub fault-found : {k : Why} → numbers (drop at s) ≡ refused k → refused k ≡ many (numbers s)
     fault-found e = sym (g .left ∙ rw e)
 
-    pub nothing-left : length s ≤ at → numbers (drop at s) ≡ gives []
-    nothing-left h = numbers-none (drop at s) (omega (arith, length-drop at s))
+    pub no-numbers-left : length s ≤ at → numbers (drop at s) ≡ gives []
+    no-numbers-left h = numbers-none (drop at s) (omega (arith, length-drop at s))
 
     pub all-counted : length s ≤ at → gives count ≡ many (numbers s)
-    all-counted h = sym (g .left ∙ rw (nothing-left h) (ap gives (omega arith)))
+    all-counted h = sym (g .left ∙ rw (no-numbers-left h) (ap gives (omega arith)))

@@ -1,4 +1,11 @@
 -- The answers of strict reading, from how many numbers the block has, or its first fault.
+--
+--   strict-answer    in a block within the limit, the answer and the slice that come from its numbers are strict reading's
+--   counted-room     where there is room for the numbers, their count is answered
+--   slice-fits       a block within the limit fits a slice with room for as many numbers as it has
+--   block-too-long   a block above the limit is refused by 7, and the slice kept
+--   block-faulty     one with a fault, by the first
+--   slice-full       one of more numbers than the slice has room for, by 5
 use Prim.Native.Nat.{ℕ, _≤_, _<_}
 use mathlib.Core.Path.{_≡_, refl}
 use mathlib.Core.List.{List}
@@ -17,10 +24,10 @@ use Rattle.lists.specs.declared.ReadList.the-variants.{Refused}
 
 -- strict reading, from what the numbers of the block come to
 module _ (s old : List ℕ) (short : length s ≤ blockLimit) where
-  pub answered : {r : ReadList} {out : List ℕ} → meansReadList r ≡ counted (numbers s) (length old) → out ≡ filling (numbers s) old
+  pub strict-answer : {r : ReadList} {out : List ℕ} → meansReadList r ≡ counted (numbers s) (length old) → out ≡ filling (numbers s) old
       → ReadsStrict s old r out
   unfolding strict filled
-  answered e f = let t = le-ltb blockLimit (length s) short in record { answer = rw t e; leaves = rw t f }
+  strict-answer e f = let t = le-ltb blockLimit (length s) short in record { answer = rw t e; leaves = rw t f }
 
 pub counted-room : (a : Answer (List ℕ)) (room : ℕ) → Room a 0 room → many a ≡ counted a room
 counted-room (gives ns) room h = rw (le-leb (length ns) room (omega arith))
@@ -46,8 +53,8 @@ filling-fault : (a : Answer (List ℕ)) {k : Why} (old : List ℕ) → refused k
 filling-fault (gives ns) old e = let z : _≡_ {A = ℕ} 0 1 = cc in absurd (omega arith)
 filling-fault (refused k) old e = refl
 
-pub list-fits : (s : List ℕ) {n room : ℕ} → length s ≤ blockLimit → gives n ≡ many (numbers s) → n ≤ room → Fits s room
-list-fits s short e h = record { short = short; enough = room-of (numbers s) e h }
+pub slice-fits : (s : List ℕ) {n room : ℕ} → length s ≤ blockLimit → gives n ≡ many (numbers s) → n ≤ room → Fits s room
+slice-fits s short e h = record { short = short; enough = room-of (numbers s) e h }
 
 module _ (s old : List ℕ) where
   pub block-too-long : blockLimit < length s → ReadsStrict s old (Refused TooLong) old
@@ -55,7 +62,7 @@ module _ (s old : List ℕ) where
   block-too-long h = let t = lt-ltb blockLimit (length s) h in record { answer = rw t; leaves = rw t }
 
   pub block-faulty : {k : Refusal} → length s ≤ blockLimit → refused (because k) ≡ many (numbers s) → ReadsStrict s old (Refused k) old
-  block-faulty h e = answered s old h (counted-fault (numbers s) (length old) e) (filling-fault (numbers s) old e)
+  block-faulty h e = strict-answer s old h (counted-fault (numbers s) (length old) e) (filling-fault (numbers s) old e)
 
-  pub list-full : {n : ℕ} → length s ≤ blockLimit → gives n ≡ many (numbers s) → length old < n → ReadsStrict s old (Refused NoRoom) old
-  list-full short e h = answered s old short (counted-full (numbers s) (length old) e h) (filling-full (numbers s) old e h)
+  pub slice-full : {n : ℕ} → length s ≤ blockLimit → gives n ≡ many (numbers s) → length old < n → ReadsStrict s old (Refused NoRoom) old
+  slice-full short e h = strict-answer s old short (counted-full (numbers s) (length old) e h) (filling-full (numbers s) old e h)

@@ -1,4 +1,12 @@
 -- Adding up the lengths of a list's forms: what the loop holds, and how a list's forms begin.
+--
+--   forms-next          the forms from the i-th number on are its form and the forms of those behind it
+--   forms-end           behind the last number there are none
+--   length-next         the length of the forms from the i-th number on is that of its form and that of the forms of those behind it
+--   Adding ns total i   total is the length of the forms of the first i numbers, and at most 10 bytes for each
+--   none-added          at first, nothing
+--   one-added           the length of the next number's form is added, if it is a number of 64 bits
+--   all-added           behind the last number, total is the length of all forms
 use Prim.Native.Nat.{ℕ, _+_, _*_, _^_, _≤_, _<_}
 use mathlib.Core.Path.{_≡_}
 use mathlib.Core.List.{List, [], _++_}

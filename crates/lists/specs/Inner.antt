@@ -1,14 +1,14 @@
 -- What the functions inside the crate ask and promise, over what is left of the block.
 --
---   ahead v a           the answer a with the number v in front
---   many a              how many numbers
---   Room a i room       a is numbers, and behind i others there is room for them
---   Fits s room         the block s has no fault, and there is room for its numbers
---   StartsBefore s p    p is a start of the block s, before its end
---   Behind s p v q      the number v stands at the start p, and q is the start behind it
---   Passes s p r        r says what stands at the start p: a fault, or a number and the place behind it
---   meansScanned         what the first pass's answer says
---   Scans s r           r says how many numbers the block s has, or its first fault
+--   ahead v a          the answer a with the number v in front
+--   many a             how many numbers
+--   Room a i room      a is numbers, and behind i others there is room for them
+--   Fits s room        the block s has no fault, and there is room for its numbers
+--   StartsBefore s p   p is a start of the block s, before its end
+--   Behind s p v q     the number v stands at the start p, and q is the start behind it
+--   Passes s p r       r says what stands at the start p: a fault, or a number and the place behind it
+--   meansScanned       what the first pass's answer says
+--   Scans s r          r says how many numbers the block s has, or its first fault
 use Prim.Native.Nat.{ℕ, _+_, _≤_, _<_}
 use mathlib.Core.List.{List, _∷_}
 use mathlib.Core.Path.{_≡_}

@@ -1,7 +1,7 @@
 -- Document 01, "Blocks, groups and tails": list writing.
 --
 --   listLimit   the most numbers of a list
---   forms ns     the forms of the numbers, one after another
+--   forms ns    the forms of the numbers, one after another
 use Prim.Native.Nat.{ℕ}
 use mathlib.Core.List.{List, [], _∷_, _++_}
 use Rattle.uleb128.specs.Unsigned.{form}

@@ -1,16 +1,16 @@
 -- What the functions of this crate promise.
 --
---   WritesList   writing the numbers ns at the place of s answers r and leaves out
+--   WritesList      writing the numbers ns at the place of s answers r and leaves out
 --   meansReadList   what strict reading's answer says
---   ReadsStrict   strict reading of the block s into the slice old answers r and leaves out
+--   ReadsStrict     strict reading of the block s into the slice old answers r and leaves out
 use Prim.Native.Nat.{ℕ}
 use mathlib.Core.List.{List}
 use mathlib.Core.Path.{_≡_}
 use lib.Dec.{ltb}
 use lib.ListN.{length}
 use Rattle.words.specs.Answer.{pick, refused, meansWritten, Answer, gives, by, because}
-use Rattle.words.specs.declared.Written.{Written}
 use Rattle.words.specs.Lays.{writing, laid}
+use Rattle.words.specs.declared.Written.{Written}
 use Rattle.lists.specs.Lists.{forms, listLimit}
 use Rattle.lists.specs.Strict.{strict, filled}
 use Rattle.lists.specs.declared.ReadList.{ReadList}

@@ -1,15 +1,21 @@
 -- The few facts on a machine's signed numbers: the sign, the complement and the magnitude of an i64.
+--
+--   below-sign                         the test for below zero, on a number's bits, says whether it is below zero
+--   word-back                          a number of the width is the number of its bits
+--   complement, above                  for m below 2 to the 63: the complement of its bits is the number -m-1, and its bits are the number m
+--   Magnitude v bits                   the bits as a signed number aren't below zero, fit 64 bits, and are v's magnitude
+--   magnitude-below, magnitude-above   below zero the complement of v's bits is so, else the bits are
 use Prim.Native.Nat.{ℕ, suc, _-_, _^_, _<_}
 use mathlib.Core.Path.{_≡_, refl}
 use mathlib.Core.Bool.{true, false}
 use native.Mathlib.Omega.{arith}
 use borrow.Author.Tests.{le-ltb}
-use lib.Dec.{T}
-use lib.IntN.{ℤ, pos, negsuc, natAbs}
-use lib.Signed.{mag, ltZ, nonNeg}
 use mir.Syntax.{w64}
 use mir.Val.{toZ, ofZ, Fits, SFits}
 use mir.ValLaws.{toZ-pos, toZ-neg, toZ-ofZ}
+use lib.Dec.{T}
+use lib.IntN.{ℤ, pos, negsuc, natAbs}
+use lib.Signed.{mag, ltZ, nonNeg}
 use Rattle.sleb128.specs.Signed.{below}
 
 pub below-sign : (v : ℤ) → SFits w64 v → ltZ (toZ w64 (ofZ w64 v)) (pos 0) ≡ below v

@@ -1,4 +1,12 @@
--- The answers of a group that closes, by the tests on the way: what `closed` cites.
+-- What `closing` answers of a group, by the tests on the way. Below, low is what the bytes before the last say.
+--
+--   closing-large    a last byte that says more than 0, behind nine others or more: refusal 2
+--   closing-number   one that says more than 0, behind fewer: the number
+--   closing-one      one that says 0 and is the first: the number
+--   closing-many     one that says 0 behind others, and low is below half the weight: refusal 3
+--   closing-last     one that says 0 behind others, and low is at least half the weight: the number
+--   closing-fits     the number's magnitude is below 2 to the 63, where behind nine others the last byte says 0
+--   low-fits         low is below 2 to the 63
 use Prim.Native.Nat.{ℕ, _+_, _*_, _^_, _≤_, _<_}
 use mathlib.Core.Path.{_≡_}
 use mathlib.Core.Bool.{Bool, false}

@@ -1,20 +1,24 @@
--- The signed form is spelled.
-use native.Mathlib.Omega.{arith}
-use lib.IntN.{ℤ}
-use lib.Signed.{mag}
-use Rattle.groups.proofs.Spelling.{Spelled, spelled, spelled-laid, some-bytes, small-enough, spelled-short}
-use Rattle.sleb128.specs.Signed.{below, form}
+-- The signed form: how it is spelled, how long it is, and when it is laid down.
+--
+--   form-spelled   the form spells the magnitude of its number, at its sign
+--   form-length    it is as long as the unsigned form of twice the magnitude
+--   form-laid      where as many bytes as it has, that spell the same, are laid down, it is
 use Prim.Native.Nat.{ℕ, _-_, _*_, _^_, _≤_, _<_}
 use mathlib.Core.Path.{_≡_}
 use mathlib.Core.List.{List}
 use mathlib.Core.Bool.{Bool}
+use native.Mathlib.Omega.{arith}
 use native.Mathlib.Nat.{le-antisymm}
+use lib.IntN.{ℤ}
+use lib.Signed.{mag}
 use lib.ListN.{length}
+use Rattle.words.specs.Lays.{Lays}
 use Rattle.words.specs.declared.Written.{Written}
 use Rattle.groups.specs.Form.{groups}
-use Rattle.words.specs.Lays.{Lays}
+use Rattle.groups.proofs.Spelling.{Spelled, spelled, spelled-laid, some-bytes, spelled-short, short-small}
 use Rattle.uleb128.specs.Unsigned.{form as unsigned-form}
 use Rattle.uleb128.proofs.Forms.{form-spelled as unsigned-spelled}
+use Rattle.sleb128.specs.Signed.{below, form}
 
 pub form-spelled : (v : ℤ) → Spelled (below v) 64 (mag v) (form v)
 unfolding form
@@ -25,7 +29,7 @@ no-longer : {s t : Bool} {a b m n : ℕ} {g h : List ℕ} → a ≤ 128 → b �
     → ((p : ℕ) → m < b * p → n < a * p) → length g ≤ length h
 no-longer {h = h} la lb p q f =
     let k = length h - 1 in
-    omega (arith, some-bytes q, spelled-short la k p (f (128 ^ k) (small-enough lb k q (omega (arith, some-bytes q)))))
+    omega (arith, some-bytes q, spelled-short la k p (f (128 ^ k) (short-small lb k q (omega (arith, some-bytes q)))))
 
 pub form-length : (v : ℤ) → length (form v) ≡ length (unsigned-form (mag v * 2))
 form-length v =

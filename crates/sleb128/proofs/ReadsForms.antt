@@ -1,4 +1,9 @@
 -- A reading at the signed width accepts exactly the forms of the numbers from -2 to the 63 to 2 to the 63, less one.
+--
+--   value-above, value-below   a group's value is what it says: not below zero where its last byte is below 64, else below zero
+--   accepted-form              an accepted group is the form of its value, and that is of the width
+--   form-value                 the value of a form is its number
+--   read-begins, begins-read   from the reading to the form at the place, and back
 use Prim.Native.Nat.{ℕ, _+_, _-_, _*_, _^_, _≤_, _<_}
 use mathlib.Core.Path.{_≡_, ap, sym, _∙_}
 use mathlib.Core.List.{List}
@@ -17,7 +22,7 @@ use Rattle.groups.specs.Begins.{Begins}
 use Rattle.groups.proofs.Run.{at-run}
 use Rattle.groups.proofs.Spelling.{said, said-digits, spelled-group, spelled-said, last-small, group-bounds, complements}
 use Rattle.groups.proofs.Exact.{accepts, accepted, group-length}
-use Rattle.groups.proofs.Stands.{read-stands, stands-read}
+use Rattle.groups.proofs.Stands.{read-stands, form-read, read-form}
 use Rattle.sleb128.specs.Signed.{below, form, twos, i64}
 use Rattle.sleb128.proofs.Forms.{form-spelled}
 use Rattle.sleb128.proofs.Widths.{sound, spells, pow-seven, half-seven}
@@ -64,7 +69,7 @@ module _ {g : List ℕ} (r : Group g) where
       (λ h. rw (value-above h) (accepted (spells false) r h e t))
       (λ h. rw (value-below h) (accepted (spells true) r (omega (arith, last-low)) e t))
 
--- a form is an accepted group, with the value of its number
+-- a form has the value of its number
 pub form-value : (v : ℤ) → i64 .value (form v) ≡ v
 form-value (pos n) =
     let s = form-spelled (pos n) in
@@ -80,20 +85,8 @@ module _ (s : List ℕ) (at : ℕ) {v : ℤ} {n : ℕ} where
       let g = read-stands i64 s at sound bytes e in
       let a = accepted-form (g .is-group) (g .not-large) (g .not-many) in
       let f : g .group ≡ form v = a .0 ∙ ap form (sym (g .value)) in
-      record { here = g .here; of-width = rw (g .value) (a .1); rest = g .rest; begins = g .begins ∙ rw f; count = g .count ∙ ap length f }
+      read-form i64 s at g f (rw (g .value) (a .1))
 
   pub begins-read : Begins form (λ x. mag x < 2 ^ 63) s at v n → read i64 s at ≡ gives (v, n)
   unfolding form
-  begins-read b =
-      let a = accepts (spells (below v)) (b .of-width) in
-      stands-read i64 s at (record {
-        here = b .here;
-        group = form v;
-        rest = b .rest;
-        begins = b .begins;
-        is-group = a .0;
-        not-large = a .1;
-        not-many = a .2;
-        value = sym (form-value v);
-        count = b .count;
-      })
+  begins-read b = form-read i64 s at b (accepts (spells (below v)) (b .of-width)) (form-value v)

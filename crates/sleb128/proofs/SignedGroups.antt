@@ -1,7 +1,9 @@
 -- A group that the walk closed: its value, its rows, and so what a reading answers, at either sign.
 --
---   lowOf          what the bytes before the last say at a sign
---   closed-reads   the reading, from what the walk told
+--   lowOf b weight sum           what the bytes before the last say at the sign b
+--   closed-reads                 at the sign where the last byte says less than 64, the reading is `closing` of what the bytes say
+--   closes-above, closes-below   what the bytes say closes a group (`Closes`): not below zero where the last is below 64, else below zero
+--   reads-above, reads-below     the reading is `closing` of the same
 use Prim.Native.Nat.{ℕ, suc, _+_, _-_, _*_, _%_, _^_, _≤_, _<_}
 use mathlib.Core.Path.{_≡_, ap, sym, _∙_}
 use mathlib.Core.List.{List}

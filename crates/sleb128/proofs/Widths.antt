@@ -1,4 +1,10 @@
 -- The signed width: its rules are those of spelling, at either sign.
+--
+--   sound                   only bytes below 128 are allowed at the greatest length, which is above 0
+--   allowed                 a last byte is allowed there exactly where it says 0
+--   one-too-many            a last byte is one too many exactly where it and the one before it say less than 64
+--   spells                  the width's rules are those of spelling
+--   pow-seven, half-seven   2 to the 7k is 128 to the k, and half of 2 to the 7(k + 1) is 64 times 128 to the k
 use Prim.Native.Nat.{ℕ, zero, suc, _+_, _-_, _*_, _%_, _^_, _<_}
 use mathlib.Core.Path.{_≡_, refl, sym, _∙_}
 use mathlib.Core.Bool.{Bool, true, false}

@@ -1,20 +1,20 @@
 -- What the functions of this crate promise.
 --
---   meansReadI64     what a reader's answer says: the number with its count of bytes, or the refusal's number
---   ReadsI64    reading the bytes from the place at on answers r
---   WritesI64   writing v at the place of s answers r and leaves out
---   LengthI64   the number takes r bytes
+--   meansReadI64   what a reader's answer says: the number with its count of bytes, or the refusal's number
+--   ReadsI64       reading the bytes from the place at on answers r
+--   WritesI64      writing v at the place of s answers r and leaves out
+--   LengthI64      the number takes r bytes
 use Prim.Native.Nat.{ℕ}
 use mathlib.Core.List.{List}
 use lib.IntN.{ℤ}
 use Rattle.words.specs.Answer.{Answer, gives, refused, because}
+use Rattle.words.specs.Lays.{Lays, Takes}
+use Rattle.words.specs.declared.Count.{Count}
+use Rattle.words.specs.declared.Written.{Written}
 use Rattle.groups.specs.Width.{Reads}
 use Rattle.sleb128.specs.Signed.{i64, form}
 use Rattle.sleb128.specs.declared.ReadI64.{ReadI64}
 use Rattle.sleb128.specs.declared.ReadI64.the-variants.{Number, Refused}
-use Rattle.words.specs.declared.Count.{Count}
-use Rattle.words.specs.declared.Written.{Written}
-use Rattle.words.specs.Lays.{Lays, Takes}
 
 abbrev pub meansReadI64 : ReadI64 → Answer (ℤ × ℕ)
 meansReadI64 (Number v n) = gives (v, n .0)

@@ -1,17 +1,18 @@
 -- The digits that `io::decimal` makes are those of `decimal`, and a number of 64 bits has 20 at most.
 --
+--   Spelled v l                    l is the digits of v
 --   decimal-small, decimal-large   the two equations of `decimal`
---   fewest, lays-decimal           the fewest digits that hold a number, at least one, are its digits
+--   lays-decimal                   where the fewest digits that hold a number, at least one, are laid down, `decimal` of it is
 --   at-most-20                     how many a number of 64 bits has
 use Prim.Native.Nat.{ℕ, zero, suc, _+_, _-_, _/_, _%_, _^_, _≤_, _<_}
 use mathlib.Core.Path.{_≡_, refl, ap}
 use mathlib.Core.List.{List, [], _∷_, _++_}
 use native.Mathlib.Nat.{pow-succ'}
 use native.Mathlib.Omega.{arith}
-use Rattle.words.proofs.Cases.{by-order}
 use borrow.Author.Tests.{lt-ltb, le-ltb}
 use lib.ListN.{length, length-append}
 use Rattle.io.specs.Digits.{digits, glyph, Fewest}
+use Rattle.words.proofs.Cases.{by-order}
 use Rattle.texts.specs.Texts.{decimal, decimalWithin, LaysText}
 
 -- l is the digits of v

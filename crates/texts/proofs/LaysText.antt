@@ -1,17 +1,17 @@
 -- Texts laid down in a buffer, one behind the other.
 --
---   none-laid, joined-laid     no text; a text and one behind it are laid down as one
---   TextSoFar t i s at ..   the first i bytes of the text t are laid down
---   text-begun, one-laid         none, and one byte more
---   full-laid, all-laid         no room for more, and all of them
---   laid                where there is room at the front, all of a text stands there
+--   joined-laid                 a text and one behind it are laid down as one
+--   TextSoFar t i s at r s′     the first i bytes of the text t are laid down, and r is the place behind them
+--   text-begun, one-byte-laid   none, and one byte more
+--   full-laid, all-text-laid    the text is laid down where there is no room for more, and where all of its bytes are
+--   front-count, front-laid     where there is room for it at the front, the place behind a text is its length, and all of it stands there
 use Prim.Native.Nat.{ℕ, zero, suc, _+_, _-_, _≤_, _<_}
 use mathlib.Core.Path.{_≡_, refl, ap, _∙_}
 use mathlib.Core.List.{List, [], _∷_, _++_}
 use native.Mathlib.Numerals.{add-one}
 use native.Mathlib.Omega.{arith}
 use lib.ListN.{length, take, drop, getD, length-take, length-append}
-use lib.Seq.{sets, length-sets, take-suc, take-all, take-nil, length-take-le, sets-eq}
+use lib.Seq.{sets, length-sets, take-suc, take-all, length-take-le, sets-eq}
 use Rattle.words.proofs.Lays.{sets-append}
 use Rattle.texts.specs.Texts.{LaysText}
 
@@ -22,9 +22,6 @@ take-append (suc n) [] b = let e : suc n - 0 ≡ suc n = omega arith in rw e
 take-append (suc n) (x ∷ a) b =
     let e : suc n - suc (length a) ≡ n - length a = omega arith in
     rw e (ap (λ (l : List ℕ). x ∷ l) (take-append n a b))
-
-pub none-laid : {s : List ℕ} {at : ℕ} → LaysText [] s at at s
-none-laid {s} {at} = record { place = rw (take-nil {A = ℕ} (length s - at)) (omega arith); bytes = rw (take-nil {A = ℕ} (length s - at)) }
 
 module _ {a b s s′ s″ : List ℕ} {at r r′ : ℕ} (p : LaysText a s at r s′) (q : LaysText b s′ r r′ s″) where
   left : length s′ - r ≡ length s - at - length a
@@ -52,8 +49,8 @@ pub text-begun : {t s : List ℕ} {at : ℕ} → TextSoFar t 0 s at at s
 text-begun {t} {s} {at} = record { within = omega arith; room = omega arith; place = omega arith; same = refl; bytes = refl }
 
 module _ {t s s′ : List ℕ} {i at r : ℕ} (g : TextSoFar t i s at r s′) where
-  pub one-laid : {s″ : List ℕ} → i < length t → r < length s′ → s″ ≡ sets s′ r (getD t i 0 ∷ []) → TextSoFar t (i + 1) s at (r + 1) s″
-  one-laid {s″} h f e = record {
+  pub one-byte-laid : {s″ : List ℕ} → i < length t → r < length s′ → s″ ≡ sets s′ r (getD t i 0 ∷ []) → TextSoFar t (i + 1) s at (r + 1) s″
+  one-byte-laid {s″} h f e = record {
     within = omega arith;
     room = omega (arith, g .place, g .same);
     place = omega (arith, g .place);
@@ -69,8 +66,8 @@ module _ {t s s′ : List ℕ} {i at r : ℕ} (g : TextSoFar t i s at r s′) wh
   pub full-laid : length s′ ≤ r → LaysText t s at r s′
   full-laid h = stops (omega (arith, g .place, g .same, g .room))
 
-  pub all-laid : length t ≤ i → LaysText t s at r s′
-  all-laid h =
+  pub all-text-laid : length t ≤ i → LaysText t s at r s′
+  all-text-laid h =
       let e = take-all (length s - at) t (omega (arith, g .room)) in
       let k : length t ≡ i = omega (arith, g .within) in
       record { place = rw (e, k) (g .place); bytes = rw e (rw (take-all i t h) at (g .bytes)) }

@@ -1,8 +1,8 @@
 -- Texts as bytes, and how they are laid down in a buffer.
 --
---   ascii t            the bytes of a text in ASCII; `codes n t i`: of its n characters from the place i on
---   decimal v          the number v in decimal: one digit if v < 10, else the digits of v div 10 and then that of v mod 10; `decimalWithin`: the same, over a
---                      bound on how many there can be
+--   ascii t                the bytes of a text in ASCII; `codes n t i`: of its n characters from the place i on
+--   decimal v              the number v in decimal: one digit if v < 10, else the digits of v div 10 and then that of v mod 10; `decimalWithin`: the same, over a
+--                          bound on how many there can be
 --   LaysText t s at r s′   as many bytes of the text t as the buffer s has room for stand at the place, all else is kept, and r is the place behind
 use Prim.Native.Nat.{ℕ, zero, suc, _+_, _-_, _/_, _%_}
 use Prim.Native.Char.{code}

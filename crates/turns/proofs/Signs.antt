@@ -1,4 +1,6 @@
 -- The sign of a number, from the two tests.
+--
+--   loosens, tightens, holds   what a number means: below zero Loosen, above zero Tighten, else Hold
 use Prim.Native.Nat.{zero, suc}
 use mathlib.Core.Path.{_≡_, refl}
 use mathlib.Core.Bool.{true, false}

@@ -1,4 +1,9 @@
 -- Laws of the unsigned form: document 01's two sentences, and its length.
+--
+--   form-spelled             the form spells its number
+--   form-small, form-large   one byte v below 128; else (v mod 128) + 128, and then the form of v div 128
+--   form-some                a form has some byte
+--   form-short, form-long    a form has at most k + 1 bytes exactly where its number is below 128 to the k + 1
 use Prim.Native.Nat.{ℕ, _+_, _*_, _/_, _%_, _^_, _≤_, _<_}
 use mathlib.Core.Path.{_≡_}
 use mathlib.Core.List.{[], _∷_}
@@ -8,7 +13,7 @@ use native.Mathlib.Numerals.{add-one}
 use native.Mathlib.Omega.{arith}
 use lib.ListN.{length}
 use Rattle.words.proofs.Cases.{by-order}
-use Rattle.groups.proofs.Spelling.{Spelled, last, byte, spelled, some-bytes, small-enough, spelled-unique, spelled-short}
+use Rattle.groups.proofs.Spelling.{Spelled, last, byte, spelled, some-bytes, spelled-unique, spelled-short, short-small}
 use Rattle.uleb128.specs.Unsigned.{form}
 
 pow-more : (k : ℕ) → 128 ^ (k + 1) ≡ 128 * 128 ^ k
@@ -34,4 +39,4 @@ form-short v k h = omega (arith, spelled-short (omega arith) k (form-spelled v) 
 pub form-long : (v k : ℕ) → 128 ^ (k + 1) ≤ v → k + 1 < length (form v)
 form-long v k h =
     by-order (k + 1) (length (form v)) (λ l. l)
-    (λ l. absurd (omega (arith, small-enough (omega arith) k (form-spelled v) (omega arith), pow-more k)))
+    (λ l. absurd (omega (arith, short-small (omega arith) k (form-spelled v) (omega arith), pow-more k)))

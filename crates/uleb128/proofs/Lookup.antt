@@ -1,4 +1,10 @@
 -- The table of growth values: its rule, tested once over the whole table, and what looking a number up in it tells.
+--
+--   growth           128 to the powers from 1 to 9: from each on, a form has a byte more
+--   length-found     a number below the value at i, with a form of more than i bytes, takes i + 1
+--   growth-passed    one not below it takes more than i + 1
+--   at-most-ten      a number of 64 bits takes ten at most,
+--   longest-length   and ten if it takes more than nine
 use Prim.Native.Nat.{ℕ, zero, suc, _+_, _^_, _≤_, _<_}
 use mathlib.Core.Path.{_≡_, ap, _∙_}
 use mathlib.Core.List.{List, [], _∷_}
@@ -29,14 +35,14 @@ unfolding table
 growth-at i h = table-at (λ (k : ℕ). 128 ^ (k + 1)) 0 9 i h ∙ ap (λ (k : ℕ). 128 ^ (k + 1)) (omega arith)
 
 module _ (v i : ℕ) (few : i < 9) where
-  pub found : i < length (form v) → v < getD growth i 0 → LengthU64 v (record { 0 = i + 1 })
-  found h l = record { is = omega (arith, form-short v i (rw (← (growth-at i few)) l)) }
+  pub length-found : i < length (form v) → v < getD growth i 0 → LengthU64 v (record { 0 = i + 1 })
+  length-found h l = record { is = omega (arith, form-short v i (rw (← (growth-at i few)) l)) }
 
-  pub passed : getD growth i 0 ≤ v → i + 1 < length (form v)
-  passed l = form-long v i (rw (← (growth-at i few)) l)
+  pub growth-passed : getD growth i 0 ≤ v → i + 1 < length (form v)
+  growth-passed l = form-long v i (rw (← (growth-at i few)) l)
 
 pub at-most-ten : (v : ℕ) → v < 2 ^ 64 → length (form v) ≤ 10
 at-most-ten v h = form-short v 9 (omega arith)
 
-pub all-passed : (v : ℕ) → v < 2 ^ 64 → 9 < length (form v) → LengthU64 v (record { 0 = 10 })
-all-passed v f h = record { is = omega (arith, at-most-ten v f) }
+pub longest-length : (v : ℕ) → v < 2 ^ 64 → 9 < length (form v) → LengthU64 v (record { 0 = 10 })
+longest-length v f h = record { is = omega (arith, at-most-ten v f) }

@@ -1,4 +1,8 @@
 -- A reading at an unsigned width accepts exactly the forms of the numbers below the width's limit.
+--
+--   Under most top v           v is a number of the width: below 128 to the most - 1, times top + 1
+--   read-begins, begins-read   from the reading to the form at the place, and back
+--   case-read                  what an answer means is what the case that it is means
 use Prim.Native.Nat.{ℕ, _+_, _-_, _*_, _^_, _<_}
 use mathlib.Core.Path.{_≡_, ap, sym, _∙_}
 use mathlib.Core.List.{List}
@@ -12,7 +16,7 @@ use Rattle.groups.specs.Begins.{Begins}
 use Rattle.groups.proofs.Run.{at-run}
 use Rattle.groups.proofs.Spelling.{said, said-digits, spelled-said}
 use Rattle.groups.proofs.Exact.{accepts, accepted, group-length}
-use Rattle.groups.proofs.Stands.{read-stands, stands-read}
+use Rattle.groups.proofs.Stands.{read-stands, form-read, read-form}
 use Rattle.uleb128.specs.Unsigned.{form, unsigned}
 use Rattle.uleb128.specs.Promise.{meansReadU64}
 use Rattle.uleb128.specs.declared.ReadU64.{ReadU64}
@@ -32,23 +36,13 @@ module _ (most top : ℕ) (some : 0 < most) (low : top < 128) (s : List ℕ) (at
       let d : said false (g .group) ≡ v = said-digits (g .group) ∙ sym (g .value) in
       let a = accepted (spells most top some low) (g .is-group) (at-run (g .group) closed) (g .not-large) (g .not-many) in
       let f : g .group ≡ form v = a .0 ∙ ap form d in
-      record { here = g .here; of-width = rw d at (a .1); rest = g .rest; begins = g .begins ∙ rw f; count = g .count ∙ ap length f }
+      read-form (unsigned most top) s at g f (rw d at (a .1))
 
   pub begins-read : Begins form (Under most top) s at v n → read (unsigned most top) s at ≡ gives (v, n)
   unfolding form
   begins-read b =
-      let a = accepts (spells most top some low) (b .of-width) in
-      stands-read (unsigned most top) s at (record {
-        here = b .here;
-        group = form v;
-        rest = b .rest;
-        begins = b .begins;
-        is-group = a .0;
-        not-large = a .1;
-        not-many = a .2;
-        value = sym (sym (said-digits (form v)) ∙ spelled-said (omega arith) (form-spelled v));
-        count = b .count;
-      })
+      form-read (unsigned most top) s at b (accepts (spells most top some low) (b .of-width))
+      (sym (said-digits (form v)) ∙ spelled-said (omega arith) (form-spelled v))
 
 -- what is read is what an answer's case says
 pub case-read : {a : Answer (ℕ × ℕ)} {r q : ReadU64} → meansReadU64 r ≡ a → r ≡ q → a ≡ meansReadU64 q

@@ -1,4 +1,13 @@
--- Unsigned widths: their rules are those of spelling, and what a walk's answer then says at a width.
+-- Unsigned widths: their rules are those of spelling, and what a walk's answer then says at a width. A high byte is 128 or more.
+--
+--   sound, spells   an unsigned width is sound, and its rules are those of spelling unsigned numbers
+--   says-past       a place past the end: refusal 4
+--   says-end        only high bytes, fewer than the most: refusal 1
+--   says-overrun    as many high bytes as the most: refusal 2
+--   says-large      a last byte at the greatest length that is above top: refusal 2
+--   says-many       a last byte 0 that isn't the first, within the greatest length: refusal 3
+--   says-number     any other group within it: its number and count
+--   number-fits     that number fits 64 bits
 use Prim.Native.Nat.{ℕ, _+_, _-_, _*_, _^_, _≤_, _<_}
 use mathlib.Core.Path.{_≡_, refl, _∙_}
 use mathlib.Core.List.{List}
@@ -11,7 +20,7 @@ use Rattle.words.specs.Answer.{gives, refused, by}
 use Rattle.groups.specs.Group.{run}
 use Rattle.groups.specs.Width.{Reads}
 use Rattle.groups.proofs.Rows.{read-past, due-kept}
-use Rattle.groups.proofs.FromWalk.{Sound, Opening, Closing, overrun, open-short, closed-large, closed-many, closed-number, closed-digits, closed-limit}
+use Rattle.groups.proofs.FromWalk.{Sound, Opening, Closing, closed-large, closed-many, closed-number, closed-digits, closed-limit, overrun-large, open-end}
 use Rattle.groups.proofs.Exact.{Spells}
 use Rattle.uleb128.specs.Unsigned.{unsigned}
 use Rattle.uleb128.specs.Inner.{Wide}
@@ -42,10 +51,10 @@ module _ (most top : ℕ) (wide : Wide most top) (s : List ℕ) (at : ℕ) where
   says-past h = due-kept (read-past (unsigned most top) s at h)
 
   pub says-end : {high : ℕ} → Opening s at high → high < most → Reads (unsigned most top) s at (refused (by 1))
-  says-end o h = due-kept (open-short (unsigned most top) wide-sound s at o h)
+  says-end o h = due-kept (open-end (unsigned most top) wide-sound s at o h)
 
   pub says-overrun : at ≤ length s → most ≤ run (drop at s) → Reads (unsigned most top) s at (refused (by 2))
-  says-overrun h m = due-kept (overrun (unsigned most top) wide-sound s at h m)
+  says-overrun h m = due-kept (overrun-large (unsigned most top) wide-sound s at h m)
 
   module _ {sum weight high last : ℕ} (c : Closing s at sum weight high last) where
     pub says-large : high + 1 ≡ most → top < last → Reads (unsigned most top) s at (refused (by 2))

@@ -1,18 +1,18 @@
 -- What the functions of this crate promise.
 --
---   WritesU64, WritesU32   writing v at the place of s answers r and leaves out
---   LengthU64, LengthU32   the number takes r bytes
+--   WritesU64, WritesU32         writing v at the place of s answers r and leaves out
+--   LengthU64, LengthU32         the number takes r bytes
 --   meansReadU64, meansReadU32   what a reader's answer says: the number with its count of bytes, or the refusal's number
---   Reads64 w              reading at the width w, of at most 64 bits, from the place at on answers r
---   ReadsU64, ReadsU32     the same at the two widths
+--   Reads64 w                    reading at the width w, of at most 64 bits, from the place at on answers r
+--   ReadsU64, ReadsU32           the same at the two widths
 use Prim.Native.Nat.{ℕ}
 use mathlib.Core.List.{List}
+use Rattle.words.specs.Lays.{Lays, Takes}
+use Rattle.words.specs.Answer.{Answer, gives, refused, because}
 use Rattle.words.specs.declared.Count.{Count}
 use Rattle.words.specs.declared.Written.{Written}
-use Rattle.words.specs.Lays.{Lays, Takes}
-use Rattle.uleb128.specs.Unsigned.{form, u64, u32}
-use Rattle.words.specs.Answer.{Answer, gives, refused, because}
 use Rattle.groups.specs.Width.{Width, Reads}
+use Rattle.uleb128.specs.Unsigned.{form, u64, u32}
 use Rattle.uleb128.specs.declared.ReadU64.{ReadU64}
 use Rattle.uleb128.specs.declared.ReadU32.{ReadU32}
 use Rattle.uleb128.specs.declared.ReadU64.the-variants as R64

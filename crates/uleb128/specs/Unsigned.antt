@@ -1,8 +1,8 @@
 -- Document 01, "How a number is spelled": unsigned numbers.
 --
---   form v             the shortest form: one byte v if v < 128, else (v mod 128) + 128 followed by the form of v div 128
---   unsigned most top  a width: its most bytes, and the largest last byte allowed at that length
---   u64, u32           the two widths
+--   form v              the shortest form: one byte v if v < 128, else (v mod 128) + 128 followed by the form of v div 128
+--   unsigned most top   a width: its most bytes, and the largest last byte allowed at that length
+--   u64, u32            the two widths
 use Prim.Native.Nat.{ℕ}
 use mathlib.Core.List.{List}
 use mathlib.Core.Bool.{false}

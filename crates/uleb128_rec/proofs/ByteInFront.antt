@@ -1,5 +1,16 @@
--- The recursive forms, a byte at a time. Reading: a byte of 128 or more stands in front of a reading of one byte less at the
--- next place. Writing: a byte stored in front of the rest.
+-- The recursive reader, a byte at a time: a byte of 128 or more stands in front of a reading of one byte less at the next place. Below, left is
+-- the most bytes of a width that allows 0 and 1 at that length.
+--
+--   reading-step               a byte of 128 or more in front of others is read as that byte ahead of their reading, of one byte less
+--   rest-end                   at the end: refusal 1
+--   rest-large                 a byte below 128 and above 1, where left is 1: refusal 2
+--   rest-last                  any other byte below 128: the number that it is, and one byte
+--   rest-overrun               a byte of 128 or more, where left is 1: refusal 2
+--   rest-ahead                 where left is more: that byte ahead of the reading at the next place, of one byte less
+--   reads-joins                what is read at a width of fewer than ten bytes leaves room for seven bits more, or is a refusal
+--   joins-room                 a number that leaves such room is below 2 to the 57, of fewer than ten bytes
+--   ahead-zero, ahead-number   a byte ahead of 0: refusal 3; ahead of any other number: the number that both make, of one byte more
+--   ahead-case                 a byte ahead of what an answer means is that byte ahead of what the case that it is means
 use Prim.Native.Nat.{ℕ, suc, _+_, _-_, _*_, _%_, _^_, _≤_, _<_}
 use mathlib.Core.Path.{_≡_, refl, ap, sym, _∙_, subst}
 use mathlib.Core.List.{List, [], _∷_}
@@ -12,21 +23,21 @@ use lib.Dec.{ltb, eqb, leb·suc-suc, eqb·suc-suc}
 use lib.ListN.{length, getD, take, drop, drop-of-length-le, List·getD-eq-default}
 use lib.Seq.{drop-cons}
 use Rattle.words.specs.Answer.{pick, Answer, gives, refused, by, Why}
-use Rattle.words.proofs.Cases.{by-order, both-false}
 use Rattle.words.specs.declared.Count.{Count}
+use Rattle.words.proofs.Cases.{by-order, both-false}
 use Rattle.groups.specs.Group.{Bytes, run, digits}
 use Rattle.groups.specs.Width.{runsOut, tooLarge, tooMany, reading, read, Reads}
 use Rattle.groups.proofs.Run.{run-low, run-high, at-run, digits-take, pow-up}
 use Rattle.groups.proofs.Rows.{read-from, row-end, row-large, row-number, due-kept}
-use Rattle.groups.proofs.FromWalk.{overrun}
+use Rattle.groups.proofs.FromWalk.{overrun-large}
 use Rattle.groups.proofs.Stands.{read-stands, count-within}
 use Rattle.uleb128.specs.Unsigned.{unsigned}
-use Rattle.uleb128_rec.specs.Inner.{ahead, Joins}
 use Rattle.uleb128.specs.Promise.{meansReadU64}
 use Rattle.uleb128.specs.declared.ReadU64.{ReadU64}
 use Rattle.uleb128.specs.declared.ReadU64.the-variants.{Number}
 use Rattle.uleb128.proofs.Widths.{sound}
 use Rattle.uleb128.proofs.ReadsForms.{read-begins}
+use Rattle.uleb128_rec.specs.Inner.{ahead, Joins}
 
 -- a number that is one byte 0
 zero-alone : (l : List ℕ) → run l ≡ 0 → getD l (run l) 0 ≡ 0 → digits (take (run l + 1) l) ≡ 0
@@ -125,7 +136,7 @@ module _ (left : ℕ) (some : 0 < left) (s : List ℕ) (at : ℕ) where
       pub rest-overrun : left < 2 → Reads (unsigned left 1) s at (refused (by 2))
       rest-overrun l =
           due-kept
-          (overrun (unsigned left 1) (sound left 1 some (omega arith)) s at (omega arith)
+          (overrun-large (unsigned left 1) (sound left 1 some (omega arith)) s at (omega arith)
           (rw (bytes-from, run-high (getD s at 0) (drop (suc at) s) high) (omega arith)))
 
       pub rest-ahead : 1 < left → {a : Answer (ℕ × ℕ)} → a ≡ read (unsigned (left - 1) 1) s (at + 1) → read (unsigned left 1) s at ≡ ahead (getD s at 0) a

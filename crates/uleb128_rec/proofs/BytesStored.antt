@@ -1,4 +1,12 @@
 -- The recursive writer, a byte at a time: the last byte, and a byte stored in front of the rest.
+--
+--   last-stored    below 128, the byte v stored at the place is the form stored
+--   front-stored   from 128 on, so is (v mod 128) + 128 stored in front of the form of v div 128
+--   fits-one       where a form fits, the place is within the buffer,
+--   fits-rest      from 128 on the form of v div 128 fits at the next place, with one byte less left,
+--   fits-some      some byte is left,
+--   fits-count     and from 128 on the count of the rest and 1 is at most what is left
+--   all-written    a form stored where it has room is laid down
 use Prim.Native.Nat.{ℕ, suc, _+_, _-_, _/_, _%_, _≤_, _<_}
 use mathlib.Core.Path.{_≡_, refl, ap, _∙_}
 use mathlib.Core.List.{List, [], _∷_}
@@ -6,12 +14,12 @@ use native.Mathlib.Numerals.{add-one}
 use native.Mathlib.Omega.{arith}
 use lib.ListN.{length, set}
 use lib.Seq.{sets, sets-eq, set-comm}
-use Rattle.words.specs.declared.Written.the-variants.{Bytes}
 use Rattle.words.specs.Lays.{Lays}
+use Rattle.words.specs.declared.Written.the-variants.{Bytes}
 use Rattle.words.proofs.Lays.{fits-there}
 use Rattle.uleb128.specs.Unsigned.{form}
-use Rattle.uleb128_rec.specs.Inner.{WritesRest, Fits}
 use Rattle.uleb128.proofs.Forms.{form-small, form-large, form-some}
+use Rattle.uleb128_rec.specs.Inner.{WritesRest, Fits}
 
 -- a store before a run of stores goes ahead of it
 set-ahead : (g s : List ℕ) (i j b : ℕ) → i < j → set (sets s j g) i b ≡ sets (set s i b) j g

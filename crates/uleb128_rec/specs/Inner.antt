@@ -1,16 +1,16 @@
 -- What the functions inside the crate ask and promise, over the bytes that are left.
 --
---   ahead b a   the answer a with the byte b of 128 or more in front: no number is 0 behind another byte
---   Joins a     a number that leaves room for seven bits more, or a refusal
+--   ahead b a                 the answer a with the byte b of 128 or more in front: no number is 0 behind another byte
+--   Joins a                   a number that leaves room for seven bits more, or a refusal
 --   WritesRest v s at r out   the form of v is stored from the place of s on, r bytes, and leaves out
 --   Fits v s at left          the form of v has at most left bytes, and they fit
 use Prim.Native.Nat.{ℕ, _+_, _*_, _%_, _^_, _<_, _≤_}
-use lib.Dec.{eqb}
-use Rattle.words.specs.Answer.{pick, Answer, gives, refused, by}
 use mathlib.Core.List.{List}
 use mathlib.Core.Path.{_≡_}
+use lib.Dec.{eqb}
 use lib.ListN.{length}
 use lib.Seq.{sets}
+use Rattle.words.specs.Answer.{pick, Answer, gives, refused, by}
 use Rattle.uleb128.specs.Unsigned.{form}
 
 abbrev pub ahead : ℕ → Answer (ℕ × ℕ) → Answer (ℕ × ℕ)

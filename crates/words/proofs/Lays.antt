@@ -1,14 +1,14 @@
 -- Laying bytes down: the two answers of every writer, what they tell, and bytes stored one behind the other.
 --
---   room-none, room-left   whether there is room, from the place and from what is left behind it
---   room-full, room-there  what the test for room says
---   no-room, room-refused  the promise kept where the bytes don't fit, and where the test says so
---   fits-there             the promise kept where they fit
---   laid-there             where they fit they stand at the place,
---   laid-count             their count is answered,
---   never-refused          and nothing is refused
---   some-lays              what a writer can answer
---   sets-append            bytes stored, and more behind them
+--   room-none, room-left    whether there is room, from the place and from what is left behind it
+--   room-full, room-there   what the test for room says
+--   no-room, room-refused   the promise kept where the bytes don't fit, and where the test says so
+--   fits-there              the promise kept where they fit
+--   laid-there              where they fit they stand at the place,
+--   laid-count              their count is answered,
+--   never-refused           and nothing is refused
+--   some-lays               what a writer can answer
+--   sets-append             bytes stored, and more behind them
 use Prim.Native.Nat.{ℕ, suc, _+_, _-_, _≤_, _<_}
 use mathlib.Core.Path.{_≡_, refl, ap, sym, _∙_}
 use mathlib.Core.List.{List, [], _∷_, _++_}

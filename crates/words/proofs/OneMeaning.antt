@@ -1,14 +1,14 @@
 -- An answer is determined by what it means, and a promise by its rows: what every crate's proofs of "one answer and no second" cite.
 --
---   apart                     what was given is no refusal
---   refused-same              a refusal is told by its number
---   given-value, given-count  the parts of a number that was given
---   same-both                 pairs are equal where their parts are
---   by-rows                   a promise that is met by one answer at most, whose rows meet it, and one of whose rows holds, is met exactly
---                             where a row holds
---   same-by                   what has a way back from its meaning is determined by it
---   back                      the way back to an answer of two kinds
---   same-written, same-lays   so a writer has one answer, and leaves one buffer
+--   apart                      what was given is no refusal
+--   refused-same               a refusal is told by its number
+--   given-value, given-count   the parts of a number that was given
+--   same-both                  pairs are equal where their parts are
+--   by-rows                    a promise that is met by one answer at most, whose rows meet it, and one of whose rows holds, is met exactly
+--                              where a row holds
+--   same-by                    what has a way back from its meaning is determined by it
+--   back                       the way back to an answer of two kinds
+--   same-written, same-lays    so a writer has one answer, and leaves one buffer
 use Prim.Native.Nat.{ℕ}
 use mathlib.Core.List.{List}
 use mathlib.Core.Path.{_≡_, refl, ap, sym, _∙_, subst}

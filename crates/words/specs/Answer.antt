@@ -1,12 +1,12 @@
 -- What is answered, in document 01's own numbers and values.
 --
---   pick         one of two things, by a test
---   both         two tests hold
---   either       one of two tests holds
---   Why          what a refusal carries: its number; `numberIn`: that number
---   because r    what the refusal r carries
---   Answer A     what was asked for, or a refusal with what it carries
---   meansWritten what a writer's answer says
+--   pick           one of two things, by a test
+--   both           two tests hold
+--   either         one of two tests holds
+--   Why            what a refusal carries: its number; `numberIn`: that number
+--   because r      what the refusal r carries
+--   Answer A       what was asked for, or a refusal with what it carries
+--   meansWritten   what a writer's answer says
 use Prim.Native.Nat.{ℕ}
 use mathlib.Core.Bool.{Bool, true, false}
 use Rattle.words.specs.Refusal.{numberOf}

@@ -1,7 +1,7 @@
 -- What the functions of this crate promise.
 --
---   Numbered r n         n is the number of the refusal r
---   HasRoom size at n r  r says whether n bytes at the place at fit a buffer of so many bytes
+--   Numbered r n          n is the number of the refusal r
+--   HasRoom size at n r   r says whether n bytes at the place at fit a buffer of so many bytes
 use Prim.Native.Nat.{ℕ}
 use mathlib.Core.Bool.{Bool}
 use mathlib.Core.Path.{_≡_}

@@ -1,8 +1,8 @@
 -- `blocks::group` keeps what it promises inside the crate.
 use mathlib.Core.Path.{ap}
+use borrow.Author.Needs.{needs}
 use Rattle.blocks.specs.Inner.{meansReading}
 use Rattle.blocks.proofs.GroupReading.{said-number, said-gap}
-use borrow.Author.Needs.{needs}
 use Rattle.blocks.proofs.group.Statement.{statement}
 use Rattle.blocks.proofs.group.Tie as tie
 

@@ -1,7 +1,7 @@
 -- `blocks::high_run` keeps what it promises inside the crate: the loop holds `Passing`.
 use Prim.Native.Nat.{_-_}
-use lib.ListN.{length}
 use borrow.Author.Needs.{needs}
+use lib.ListN.{length}
 use Rattle.blocks.proofs.HighRun.{Passing, none-passed, one-passed, low-found, end-found}
 use Rattle.blocks.proofs.high_run.Statement.{statement}
 use Rattle.blocks.proofs.high_run.Tie as tie

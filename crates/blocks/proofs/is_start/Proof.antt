@@ -1,6 +1,6 @@
 -- `blocks::is_start` keeps what it promises inside the crate.
-use Rattle.blocks.proofs.HighRun.{front-is-start, low-is-start}
 use borrow.Author.Needs.{needs}
+use Rattle.blocks.proofs.HighRun.{front-is-start, low-is-start}
 use Rattle.blocks.proofs.is_start.Statement.{statement}
 use Rattle.blocks.proofs.is_start.Tie as tie
 

@@ -2,9 +2,9 @@
 use Prim.Native.Nat.{_+_, _-_}
 use mathlib.Core.Path.{refl, ap, _∙_}
 use native.Mathlib.Omega.{arith}
-use Rattle.blocks.proofs.HighRun.{within}
-use Rattle.blocks.proofs.Rows.{set-too-long, set-past, set-front, set-found, set-none}
 use borrow.Author.Needs.{needs}
+use Rattle.blocks.proofs.HighRun.{run-inside}
+use Rattle.blocks.proofs.Rows.{set-too-long, set-past, set-front, set-found, set-none}
 use Rattle.blocks.proofs.set_down.Statement.{statement}
 use Rattle.blocks.proofs.set_down.Tie as tie
 
@@ -21,7 +21,7 @@ high-run-requires : tie.Need-high-run-requires
 high-run-requires c κs = search needs
 
 add-last : tie.Need-add-last
-add-last c = omega (arith, c .high-run .ensures, within (c .before .before .before .before .before .args .block .now) (c .before .before .before .before .before .args .place .0 - 1) (search needs))
+add-last c = omega (arith, c .high-run .ensures, run-inside (c .before .before .before .before .before .args .block .now) (c .before .before .before .before .before .args .place .0 - 1) (search needs))
 
 past-requires : tie.Need-past-requires
 past-requires c κs = search needs

@@ -1,9 +1,9 @@
 -- `blocks::signed_reading` keeps what it promises inside the crate.
+use borrow.Author.Needs.{needs}
 use Rattle.sleb128.specs.Promise.{meansReadI64}
 use Rattle.sleb128.proofs.Bits.{word-back}
 use Rattle.blocks.specs.Block.{signed}
 use Rattle.blocks.proofs.GroupReading.{valued-as}
-use borrow.Author.Needs.{needs}
 use Rattle.blocks.proofs.signed_reading.Statement.{statement}
 use Rattle.blocks.proofs.signed_reading.Tie as tie
 

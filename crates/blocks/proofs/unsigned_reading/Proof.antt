@@ -1,8 +1,8 @@
 -- `blocks::unsigned_reading` keeps what it promises inside the crate.
+use borrow.Author.Needs.{needs}
 use Rattle.uleb128.specs.Promise.{meansReadU64}
 use Rattle.blocks.specs.Block.{unsigned}
 use Rattle.blocks.proofs.GroupReading.{valued-as}
-use borrow.Author.Needs.{needs}
 use Rattle.blocks.proofs.unsigned_reading.Statement.{statement}
 use Rattle.blocks.proofs.unsigned_reading.Tie as tie
 

@@ -1,8 +1,8 @@
 -- `listing::write_lines` ends: the loop holds that a listing came to the stage, and there the rank falls with each line.
 use mathlib.Core.Path.{_≡_, refl, sym}
+use borrow.Author.Needs.{needs}
 use lib.ListN.{length}
 use lib.Seq.{length-take-le}
-use borrow.Author.Needs.{needs}
 use Rattle.listing.specs.Promise.{meansListing}
 use Rattle.listing.proofs.TextLeft.{Fine, rank}
 use Rattle.listing.proofs.LineGiven.{LineGiven, line-given}

@@ -1,8 +1,8 @@
 -- `texts::word` meets its promise. The loop holds that the first i bytes are laid down; how many are left falls.
 use Prim.Native.Nat.{_-_}
-use lib.ListN.{length}
 use borrow.Author.Needs.{needs}
-use Rattle.texts.proofs.LaysText.{TextSoFar, text-begun, one-laid, full-laid, all-laid}
+use lib.ListN.{length}
+use Rattle.texts.proofs.LaysText.{TextSoFar, text-begun, full-laid, one-byte-laid, all-text-laid}
 use Rattle.texts.proofs.word.Statement.{statement}
 use Rattle.texts.proofs.word.Tie as tie
 
@@ -37,13 +37,13 @@ loop-less : tie.Need-loop-less Inv-loop μ-loop
 loop-less c = search needs
 
 loop-again : tie.Need-loop-again Inv-loop μ-loop
-loop-again c = one-laid (c .before .before .before .loop .inv) (search needs) (search needs) (search needs)
+loop-again c = one-byte-laid (c .before .before .before .loop .inv) (search needs) (search needs) (search needs)
 
 same-length-2 : tie.Need-same-length-2 Inv-loop μ-loop
 same-length-2 c = search needs
 
 returns-2 : tie.Need-returns-2 Inv-loop μ-loop
-returns-2 c = all-laid (c .before .loop .inv) (search needs)
+returns-2 c = all-text-laid (c .before .loop .inv) (search needs)
 
 pub word-spec : {M : Type 1} → statement M
 word-spec =

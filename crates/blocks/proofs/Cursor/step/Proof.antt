@@ -4,12 +4,12 @@ use mathlib.Core.Path.{_≡_, refl, ap, sym, _∙_}
 use mathlib.Core.Bool.{true}
 use native.Mathlib.Omega.{arith}
 use borrow.Author.Tests.{not-true, not-false}
+use borrow.Author.Needs.{needs}
 use denote.Ref.{now}
 use Rattle.blocks.specs.Block.{isStart}
-use Rattle.blocks.proofs.HighRun.{within}
+use Rattle.blocks.proofs.HighRun.{run-inside}
 use Rattle.blocks.proofs.GroupReading.{read-alone}
 use Rattle.blocks.proofs.Rows.{step-too-long, step-past, step-finished, step-not-a-start, step-tail, step-group}
-use borrow.Author.Needs.{needs}
 use Rattle.blocks.proofs.Cursor.step.Statement.{statement}
 use Rattle.blocks.proofs.Cursor.step.Tie as tie
 
@@ -39,7 +39,7 @@ high-run-requires c κs = search needs
 add-last : tie.Need-add-last
 add-last c =
     let a = c .before .before .before .before .before .before .before .before .args in
-    omega (arith, c .high-run .ensures, within (a .block .now) (a .self .place .0) (search needs))
+    omega (arith, c .high-run .ensures, run-inside (a .block .now) (a .self .place .0) (search needs))
 
 returns-5 : tie.Need-returns-5
 returns-5 c =

@@ -1,8 +1,8 @@
 -- `groups::walk` meets its promise: the loop holds `WalkedSoFar`, and each way out of it is a law of `WalkLoop`.
 use Prim.Native.Nat.{_+_, _*_, _-_, _<_, _^_}
-use lib.ListN.{length}
-use borrow.Author.Needs.{needs}
 use native.Mathlib.Omega.{arith}
+use borrow.Author.Needs.{needs}
+use lib.ListN.{length}
 use Rattle.groups.proofs.WalkLoop.{WalkedSoFar, walk-past, none-walked, walk-closes, walk-overruns, one-walked, walk-runs-dry, part-fits, weight-fits}
 use Rattle.groups.proofs.reading.walk.Statement.{statement}
 use Rattle.groups.proofs.reading.walk.Tie as tie

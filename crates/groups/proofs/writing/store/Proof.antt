@@ -1,13 +1,13 @@
 -- `groups::store` meets its promise: the loop holds `Stored`, and each way out is a law of `StoreLoop`.
 use Prim.Native.Nat.{_-_, _%_}
 use mathlib.Core.Path.{sym}
-use lib.ListN.{length-set}
-use borrow.Author.Needs.{needs}
 use native.Mathlib.Omega.{arith}
+use borrow.Author.Needs.{needs}
 use borrow.Author.Tests.{not-true, not-false}
+use lib.ListN.{length-set}
 use Rattle.words.proofs.Lays.{room-refused, room-there}
 use Rattle.groups.proofs.Spelling.{length-groups, say-below}
-use Rattle.groups.proofs.StoreLoop.{Stored, none-stored, one-stored, all-stored, none-laid}
+use Rattle.groups.proofs.StoreLoop.{Stored, none-stored, one-stored, all-stored, no-byte-laid}
 use Rattle.groups.proofs.writing.store.Statement.{statement}
 use Rattle.groups.proofs.writing.store.Tie as tie
 
@@ -24,7 +24,7 @@ returns : tie.Need-returns Inv-loop μ-loop
 returns c = room-refused _ _ _ (c .before .has-room .ensures) (sym (length-groups _ _ _)) (not-true _ (c .if1 .taken))
 
 returns-2 : tie.Need-returns-2 Inv-loop μ-loop
-returns-2 c = none-laid _ _ _ _ _ (omega arith) (omega (arith, room-there (c .before .before .has-room .ensures) (not-false _ (c .before .if1 .left))))
+returns-2 c = no-byte-laid _ _ _ _ _ (omega arith) (omega (arith, room-there (c .before .before .has-room .ensures) (not-false _ (c .before .if1 .left))))
 
 loop-holds : tie.Need-loop-holds Inv-loop μ-loop
 loop-holds c = none-stored _ _ _ _ _ (omega (arith, room-there (c .before .before .has-room .ensures) (not-false _ (c .before .if1 .left))))

@@ -4,7 +4,7 @@ use borrow.Author.Needs.{needs}
 use Rattle.lists.specs.Inner.{many, meansScanned}
 use Rattle.lists.specs.Strict.{numbers}
 use Rattle.lists.specs.declared.reading.Scanned.{Scanned}
-use Rattle.lists.proofs.StrictAnswers.{block-too-long, block-faulty, list-full, list-fits}
+use Rattle.lists.proofs.StrictAnswers.{block-too-long, block-faulty, slice-full, slice-fits}
 use Rattle.lists.proofs.reading.read_strict.Statement.{statement}
 use Rattle.lists.proofs.reading.read_strict.Tie as tie
 
@@ -22,11 +22,11 @@ enum-known-count : tie.Need-enum-known-count
 enum-known-count c = search needs
 
 returns-2 : tie.Need-returns-2
-returns-2 c = list-full _ _ (search needs) (told (c .before .before .before .before) (c .before .before .count .given .1)) (c .if2 .taken)
+returns-2 c = slice-full _ _ (search needs) (told (c .before .before .before .before) (c .before .before .count .given .1)) (c .if2 .taken)
 
 fill-requires : tie.Need-fill-requires
 fill-requires c κs =
-    list-fits _ (search needs) (told (c .before .before .before .before .before) (c .before .before .before .count .given .1)) (c .before .if2 .left)
+    slice-fits _ (search needs) (told (c .before .before .before .before .before) (c .before .before .before .count .given .1)) (c .before .if2 .left)
 
 enum-known-refusal : tie.Need-enum-known-refusal
 enum-known-refusal c = search needs

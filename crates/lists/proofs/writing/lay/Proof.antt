@@ -4,9 +4,9 @@ use mathlib.Core.Path.{refl}
 use native.Mathlib.Omega.{arith}
 use borrow.Author.Needs.{needs}
 use lib.ListN.{length, getD}
-use Rattle.uleb128.specs.Unsigned.{form}
-use Rattle.lists.proofs.LayLoop.{LaidSoFar, none-laid, room-next, one-laid, all-laid}
 use Rattle.words.proofs.Lays.{laid-there, laid-count, never-refused}
+use Rattle.uleb128.specs.Unsigned.{form}
+use Rattle.lists.proofs.LayLoop.{LaidSoFar, room-next, none-of-list, one-of-list, all-of-list}
 use Rattle.lists.proofs.writing.lay.Statement.{statement}
 use Rattle.lists.proofs.writing.lay.Tie as tie
 
@@ -35,11 +35,11 @@ again : (c : tie.After-known-told Inv-loop μ-loop)
     (wrote c .write-u64 .last .1 .0) (head (wrote c) .loop .to + c .before .count .given .0 .0 .0) (head (wrote c) .loop .i + 1)
 again c =
     let w = wrote c in
-    one-laid _ _ _ (entry w .pre) (head w .loop .inv) (w .before .before .before .loop-test .taken)
+    one-of-list _ _ _ (entry w .pre) (head w .loop .inv) (w .before .before .before .loop-test .taken)
     (laid-there (there w) (w .write-u64 .ensures)) (laid-count (there w) (w .write-u64 .ensures) (c .before .count .given .1))
 
 loop-holds : tie.Need-loop-holds Inv-loop μ-loop
-loop-holds c = none-laid _ _ _ (c .before .before .pre)
+loop-holds c = none-of-list _ _ _ (c .before .before .pre)
 
 mul-v : tie.Need-mul-v Inv-loop μ-loop
 mul-v c = search needs
@@ -85,7 +85,7 @@ same-length-2 : tie.Need-same-length-2 Inv-loop μ-loop
 same-length-2 c = search needs
 
 returns-2 : tie.Need-returns-2 Inv-loop μ-loop
-returns-2 c = all-laid _ _ _ (c .before .before .before .before .pre) (c .before .loop .inv) (c .loop-test .left) _ refl
+returns-2 c = all-of-list _ _ _ (c .before .before .before .before .pre) (c .before .loop .inv) (c .loop-test .left) _ refl
 
 pub lay-spec : {M : Type 1} → statement M
 lay-spec =

@@ -3,7 +3,7 @@ use native.Mathlib.Omega.{arith}
 use borrow.Author.Needs.{needs}
 use denote.Ref.{now}
 use Rattle.groups.proofs.Rows.{read-past, due-kept, due-passed}
-use Rattle.groups.proofs.FromWalk.{walk-tells, Closing, closed-below, open-short, overrun}
+use Rattle.groups.proofs.FromWalk.{walk-tells, Closing, closed-below, open-end, overrun-large}
 use Rattle.sleb128.specs.Signed.{i64}
 use Rattle.sleb128.proofs.Widths.{sound}
 use Rattle.sleb128.proofs.SignedGroups.{closes-above, closes-below, reads-above, reads-below}
@@ -58,12 +58,12 @@ returns-2 c = due-kept (read-past i64 _ _ (walk-tells _ _ (c .before .before .wa
 returns-3 : tie.Need-returns-3
 returns-3 c =
     let q = walk-tells _ _ (c .before .before .walk .ensures) (c .enum-told2 .given .1) in
-    due-kept (open-short i64 sound _ _ q (q .few))
+    due-kept (open-end i64 sound _ _ q (q .few))
 
 returns-4 : tie.Need-returns-4
 returns-4 c =
     let q = walk-tells _ _ (c .before .before .walk .ensures) (c .enum-told3 .given .1) in
-    due-kept (overrun i64 sound _ _ (q .here) (q .many))
+    due-kept (overrun-large i64 sound _ _ (q .here) (q .many))
 
 returns-5 : tie.Need-returns-5
 returns-5 c = due-passed (reads-below (closing (c .before .before .before)) (c .before .if1 .left)) (c .closed2 .ensures)

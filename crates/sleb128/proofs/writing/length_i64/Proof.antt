@@ -2,12 +2,12 @@
 use Prim.Native.Nat.{ℕ, _*_}
 use mathlib.Core.Path.{ap, sym, _∙_}
 use native.Mathlib.Omega.{arith}
+use borrow.Author.Needs.{needs}
 use lib.ListN.{length}
 use lib.Signed.{mag}
 use Rattle.uleb128.specs.Unsigned.{form as unsigned-form}
 use Rattle.sleb128.proofs.Bits.{word-back}
 use Rattle.sleb128.proofs.Forms.{form-length}
-use borrow.Author.Needs.{needs}
 use Rattle.sleb128.proofs.writing.length_i64.Statement.{statement}
 use Rattle.sleb128.proofs.writing.length_i64.Tie as tie
 

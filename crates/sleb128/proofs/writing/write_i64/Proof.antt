@@ -1,12 +1,12 @@
 -- `sleb128::write_i64` meets its promise: as many groups of seven bits as the form is long are the form.
 use mathlib.Core.Path.{ap, _∙_}
+use borrow.Author.Needs.{needs}
 use lib.IntN.{ℤ}
 use lib.ListN.{length}
 use lib.Signed.{mag}
 use Rattle.sleb128.specs.Signed.{below, form}
 use Rattle.sleb128.proofs.Bits.{word-back}
 use Rattle.sleb128.proofs.Forms.{form-laid}
-use borrow.Author.Needs.{needs}
 use Rattle.sleb128.proofs.writing.write_i64.Statement.{statement}
 use Rattle.sleb128.proofs.writing.write_i64.Tie as tie
 

@@ -5,7 +5,7 @@ use borrow.Author.Needs.{needs}
 use lib.ListN.{length}
 use Rattle.uleb128.specs.Unsigned.{form}
 use Rattle.uleb128.proofs.Forms.{form-some}
-use Rattle.uleb128.proofs.Lookup.{found, passed, all-passed}
+use Rattle.uleb128.proofs.Lookup.{length-found, growth-passed, longest-length}
 use Rattle.uleb128.proofs.writing.length_u64.Statement.{statement}
 use Rattle.uleb128.proofs.writing.length_u64.Tie as tie
 
@@ -28,16 +28,16 @@ add-n : tie.Need-add-n Inv-loop μ-loop
 add-n c = search needs
 
 returns : tie.Need-returns Inv-loop μ-loop
-returns c = found _ _ (search needs) (c .before .before .loop .inv) (c .if1 .taken)
+returns c = length-found _ _ (search needs) (c .before .before .loop .inv) (c .if1 .taken)
 
 loop-less : tie.Need-loop-less Inv-loop μ-loop
 loop-less c = search needs
 
 loop-again : tie.Need-loop-again Inv-loop μ-loop
-loop-again c = passed _ _ (search needs) (c .if1 .left)
+loop-again c = growth-passed _ _ (search needs) (c .if1 .left)
 
 returns-2 : tie.Need-returns-2 Inv-loop μ-loop
-returns-2 c = all-passed _ (search needs) (omega arith)
+returns-2 c = longest-length _ (search needs) (omega arith)
 
 pub length-u64-spec : {M : Type 1} → statement M
 length-u64-spec =

@@ -1,6 +1,6 @@
 -- `uleb128::write_u64` meets its promise: as many groups of seven bits as the form is long are the form.
-use borrow.Author.Needs.{needs}
 use native.Mathlib.Omega.{arith}
+use borrow.Author.Needs.{needs}
 use Rattle.groups.proofs.Spelling.{spelled-laid}
 use Rattle.uleb128.proofs.Forms.{form-spelled}
 use Rattle.uleb128.proofs.writing.write_u64.Statement.{statement}

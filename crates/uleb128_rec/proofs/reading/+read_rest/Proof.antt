@@ -7,11 +7,11 @@ use borrow.Fn.Kinds.{In}
 use borrow.Fn.PlainCycle.{Measures, is, falls, and}
 use Rattle.groups.proofs.Rows.{due-passed}
 use Rattle.uleb128_rec.proofs.ByteInFront.{rest-end, rest-last, rest-large, rest-overrun, rest-ahead, reads-joins}
+use Rattle.uleb128_rec.proofs.reading.+read_rest.{statement}
 use Rattle.uleb128_rec.proofs.reading.read_rest.Reads as read-rest
 use Rattle.uleb128_rec.proofs.reading.read_rest.Kinds as read-rest-kinds
 use Rattle.uleb128_rec.proofs.reading.+read_rest.Lts-read_rest as lts
 use Rattle.uleb128_rec.proofs.reading.behind.Reads as behind-reads
-use Rattle.uleb128_rec.proofs.reading.+read_rest.{statement}
 use Rattle.uleb128_rec.proofs.reading.+read_rest.Tie.{close}
 
 abbrev μ : Measures 1 read-rest-kinds.ps ℕ

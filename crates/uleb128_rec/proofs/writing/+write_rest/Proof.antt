@@ -7,10 +7,10 @@ use borrow.Fn.Kinds.{In}
 use borrow.Fn.PlainCycle.{Measures, is, falls, and}
 use lib.ListN.{length-set}
 use Rattle.uleb128_rec.proofs.BytesStored.{last-stored, front-stored, fits-one, fits-rest, fits-some, fits-count}
+use Rattle.uleb128_rec.proofs.writing.+write_rest.{statement}
 use Rattle.uleb128_rec.proofs.writing.write_rest.Reads as write-rest
 use Rattle.uleb128_rec.proofs.writing.write_rest.Kinds as write-rest-kinds
 use Rattle.uleb128_rec.proofs.writing.+write_rest.Lts-write_rest as lts
-use Rattle.uleb128_rec.proofs.writing.+write_rest.{statement}
 use Rattle.uleb128_rec.proofs.writing.+write_rest.Tie.{close}
 
 abbrev μ : Measures 1 write-rest-kinds.ps ℕ

@@ -1,0 +1,86 @@
+// What the desk answered, as lines.
+use crate::lines::Line;
+use crate::lines::says;
+use blocks::SetDown;
+use blocks::Step;
+use lists::ReadList;
+use sleb128::ReadI64;
+use turns::Turn;
+use uleb128::ReadU32;
+use uleb128::ReadU64;
+use words::Count;
+use words::Refusal;
+use words::Written;
+
+// There is no such op, or it does not take the numbers of its frame.
+pub(crate) fn unknown() -> Line {
+    says(b"unknown")
+}
+
+fn refused(refusal: Refusal) -> Line {
+    says(b"refused").refusal(refusal)
+}
+
+pub(crate) fn count(count: Count) -> Line {
+    says(b"count").count(count)
+}
+
+pub(crate) fn read_u64(answer: ReadU64) -> Line {
+    match answer {
+        ReadU64::Number(v, n) => says(b"number").number(v).count(n),
+        ReadU64::Refused(refusal) => refused(refusal),
+    }
+}
+
+pub(crate) fn read_u32(answer: ReadU32) -> Line {
+    match answer {
+        ReadU32::Number(v, n) => says(b"number").number(v as u64).count(n),
+        ReadU32::Refused(refusal) => refused(refusal),
+    }
+}
+
+pub(crate) fn read_i64(answer: ReadI64) -> Line {
+    match answer {
+        ReadI64::Number(v, n) => says(b"number").signed(v).count(n),
+        ReadI64::Refused(refusal) => refused(refusal),
+    }
+}
+
+pub(crate) fn written(answer: Written) -> Line {
+    match answer {
+        Written::Bytes(n) => count(n),
+        Written::Refused(refusal) => refused(refusal),
+    }
+}
+
+pub(crate) fn step(answer: Step) -> Line {
+    match answer {
+        Step::Number(value, n, next) => says(b"number").value(value).count(n).cursor(next),
+        Step::Gap(reason, n, next) => says(b"gap").refusal(reason).count(n).cursor(next),
+        Step::Tail(n, next) => says(b"tail").count(n).cursor(next),
+        Step::Finished(next) => says(b"finished").cursor(next),
+        Step::Refused(refusal) => refused(refusal),
+    }
+}
+
+pub(crate) fn set_down(answer: SetDown) -> Line {
+    match answer {
+        SetDown::At(cursor) => says(b"start").cursor(cursor),
+        SetDown::Refused(refusal) => refused(refusal),
+    }
+}
+
+pub(crate) fn turn(answer: Turn) -> Line {
+    match answer {
+        Turn::Tighten => says(b"tighten"),
+        Turn::Loosen => says(b"loosen"),
+        Turn::Hold => says(b"hold"),
+    }
+}
+
+pub(crate) fn read_list(answer: ReadList) -> Line {
+    match answer {
+        ReadList::Filled(numbers) => says(b"count").number(numbers.0 as u64),
+        ReadList::Refused(refusal) => refused(refusal),
+    }
+}

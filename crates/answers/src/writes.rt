@@ -1,0 +1,91 @@
+// The ops that write into the bytes of a frame. Behind what the writer answered stand the bytes that it was lent, in
+// hexadecimal.
+use crate::frames::Frame;
+use crate::frames::MOST_BYTES;
+use crate::frames::eight;
+use crate::hex;
+use crate::numbers;
+use crate::numbers::Narrow;
+use crate::said;
+use words::Place;
+use words::Written;
+ghost use Prim.Native.Nat.{_*_, _≤_};
+ghost use lib.ListN.{length};
+
+// What comes of such an op: the writer's answer, and the place from which on it was lent the bytes; or the op is unknown.
+enum Wrote {
+    Answer(Written, Place),
+    Unknown,
+}
+
+// The most numbers that the bytes of a frame hold.
+const LIST: usize = MOST_BYTES / 8;
+
+// Takes the numbers that stand in front of the bytes, eight bytes for each.
+fn take_numbers(bytes: &[u8], numbers: &mut [u64])
+    requires { ⌜ length (now numbers) * 8 ≤ length (now bytes) ⌝ }
+{
+    let mut i = 0;
+    while i < numbers.len() {
+        let from = i * 8;
+        numbers[i] = eight(bytes, from);
+        i += 1;
+    }
+}
+
+// List writing of so many numbers, which stand in front of the bytes, into the bytes behind them. The op is unknown if the
+// bytes do not hold so many.
+fn write_list(asked: u64, bytes: &mut [u8], place: Place) -> Wrote {
+    let count = asked as usize;
+    if LIST < count {
+        return Wrote::Unknown;
+    }
+    let behind = count * 8;
+    if bytes.len() < behind {
+        return Wrote::Unknown;
+    }
+    let mut numbers = [0u64; LIST];
+    let part = &mut numbers[0..count];
+    take_numbers(bytes, part);
+    let answer = lists::write_list(part, &mut bytes[behind..], place);
+    Wrote::Answer(answer, Place(behind))
+}
+
+fn write_u32(a: u64, bytes: &mut [u8], place: Place) -> Wrote {
+    match numbers::of_32_bits(a) {
+        Narrow::Number(v) => Wrote::Answer(uleb128::write_u32(v, bytes, place), Place(0)),
+        Narrow::TooLarge => Wrote::Unknown,
+    }
+}
+
+fn write(frame: Frame, bytes: &mut [u8]) -> Wrote {
+    let op = frame.op;
+    let a = frame.a;
+    let b = frame.b;
+    let place = Place(b as usize);
+    let front = Place(0);
+    match op {
+        5 => Wrote::Answer(uleb128::write_u64(a, bytes, place), front),
+        6 => Wrote::Answer(uleb128_rec::write_u64_rec(a, bytes, place), front),
+        7 => write_u32(a, bytes, place),
+        8 => Wrote::Answer(sleb128::write_i64(numbers::signed(a), bytes, place), front),
+        16 => write_list(b, bytes, Place(a as usize)),
+        _ => Wrote::Unknown,
+    }
+}
+
+fn lay(wrote: Wrote, bytes: &[u8], out: &mut [u8]) -> Place {
+    match wrote {
+        Wrote::Answer(answer, from) => {
+            let next = said::written(answer).word(b" ").lay(out, Place(0));
+            hex::behind(bytes, from, out, next)
+        }
+        Wrote::Unknown => said::unknown().lay(out, Place(0)),
+    }
+}
+
+// The line for such an op.
+pub(crate) fn answer(frame: Frame, bytes: &mut [u8], out: &mut [u8]) -> Place {
+    let wrote = write(frame, bytes);
+    lay(wrote, bytes, out)
+}

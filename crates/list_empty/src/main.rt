@@ -1,4 +1,0 @@
-// Lists standard input; its own input here is no bytes.
-fn main() {
-    listing::run();
-}
