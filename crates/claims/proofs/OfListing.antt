@@ -18,8 +18,8 @@ listing = record {
   listing-front = front-enough;
   listing-document = text-document;
   met = record {
-    text = λ t s at. ((at + length (take (length s - at) t), sets s at (take (length s - at) t)), record { place = refl; bytes = refl });
-    line = λ g s before bytes. let f = some-line g s before bytes in ((f .0, fronted (asked s (meansListing g) (length before)) before), f .1);
+    text = λ t s at. (at + length (take (length s - at) t), sets s at (take (length s - at) t), record { place = refl; bytes = refl });
+    line = λ g s before bytes. let f = some-line g s before bytes in (f .0, fronted (asked s (meansListing g) (length before)) before, f .1);
   };
   one = record {
     text = λ t s at r r′ out out′ a b. (a .place ∙ sym (b .place), a .bytes ∙ sym (b .bytes));

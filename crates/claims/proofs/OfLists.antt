@@ -15,16 +15,15 @@ use Rattle.lists.specs.Lists.{forms, listLimit}
 use Rattle.lists.specs.Promise.{WritesList}
 use Rattle.lists.proofs.OneList.{same-list}
 use Rattle.lists.proofs.LayLoop.{list-too-long, list-laid}
-use Rattle.claims.specs.Kinds.{Both}
 use Rattle.claims.specs.OfLists.{OfLists}
 use Rattle.claims.proofs.StrictRows.{strict-rows, strict-row-kept, some-strict-row as strict-found}
 use Rattle.claims.proofs.RoundTrips.{writes-list}
 use Rattle.claims.proofs.ListBack.{list-back}
 
-some-list : (ns s : List ℕ) (at : ℕ) → (x : Written × List ℕ) × Both (WritesList ns s at) x
+some-list : (ns s : List ℕ) (at : ℕ) → (r : Written) × (out : List ℕ) × WritesList ns s at r out
 some-list ns s at =
-    by-order listLimit (length ns) (λ h. ((W.Refused TooLong, s), list-too-long ns s at h))
-    (λ h. let f = some-lays (forms ns) s at in (f .0, list-laid ns s at h (f .1)))
+    by-order listLimit (length ns) (λ h. (W.Refused TooLong, s, list-too-long ns s at h))
+    (λ h. let f = some-lays (forms ns) s at in (f .0, f .1, list-laid ns s at h (f .2)))
 
 pub lists : OfLists
 lists = record {
@@ -32,7 +31,7 @@ lists = record {
   writes-list = writes-list;
   list-back = list-back;
   met = record {
-    strict = λ s old bytes. let f = strict-found s old bytes in (f .0, strict-row-kept s old (f .0) (f .1));
+    strict = λ s old bytes. let f = strict-found s old bytes in (f .0 .0, f .0 .1, strict-row-kept s old (f .0) (f .1));
     list = some-list;
   };
   one = record {

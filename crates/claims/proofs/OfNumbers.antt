@@ -25,7 +25,7 @@ use Rattle.uleb128.specs.Unsigned as unsigned
 use Rattle.uleb128.proofs.Forms.{form-short, form-some}
 use Rattle.sleb128.specs.Signed as signed
 use Rattle.sleb128.proofs.Forms.{form-spelled}
-use Rattle.claims.specs.Kinds.{Kind, loop64, recursive64, unsigned32, signed64, Value, Reply, number, refuse, ReadsAs, width, form, WritesAs, TakesAs, Both}
+use Rattle.claims.specs.Kinds.{Kind, loop64, recursive64, unsigned32, signed64, Value, Reply, number, refuse, ReadsAs, width, form, WritesAs, TakesAs}
 use Rattle.claims.specs.Try.{Starred}
 use Rattle.claims.specs.OfNumbers.{Most, OfNumbers, zeroOf}
 use Rattle.claims.proofs.Readers.{number-says, refusal-says, one-reply, accepts, refuses, excludes, exhausts, within-of-mag, mag-of-within}
@@ -33,7 +33,7 @@ use Rattle.claims.proofs.RoundTrips.{writes, write-read, read-write, mo
 use Rattle.claims.proofs.Forms.{twos-complement, signed-form, one-too-many, signed-most, shortest-form}
 use Rattle.claims.proofs.Source.{parse-same, serialize-same}
 
-some-written : (k : Kind) (v : Value k) (s : List ℕ) (at : ℕ) → (x : Written × List ℕ) × Both (WritesAs k v s at) x
+some-written : (k : Kind) (v : Value k) (s : List ℕ) (at : ℕ) → (r : Written) × (out : List ℕ) × WritesAs k v s at r out
 some-written loop64 v s at = some-lays (unsigned.form v) s at
 some-written recursive64 v s at = some-lays (unsigned.form v) s at
 some-written unsigned32 v s at = some-lays (unsigned.form v) s at

@@ -11,60 +11,27 @@ use Prim.Native.Nat.{ℕ, _+_, _-_, _≤_, _<_}
 use mathlib.Core.Path.{_≡_, refl, ap, sym, _∙_}
 use mathlib.Core.List.{List, _++_, append-assoc}
 use native.Mathlib.Omega.{arith}
-use borrow.Author.Tests.{le-leb, lt-leb, le-ltb, lt-ltb}
+use borrow.Author.Tests.{le-ltb, lt-ltb}
 use lib.ListN.{length, take, drop, length-append, length-drop, take-append-drop}
 use lib.Seq.{length-take-le, drop-at, drop-append-le, drop-drop, drop-append-seam}
-use Rattle.words.specs.Answer.{gives, meansWritten}
+use Rattle.words.specs.Answer.{meansWritten}
 use Rattle.words.specs.Refusal.{numberOf}
-use Rattle.words.specs.Lays.{writing, laid, Lays}
+use Rattle.words.specs.Lays.{Lays}
 use Rattle.words.specs.declared.Count.{Count}
 use Rattle.words.specs.declared.Refusal.the-variants.{NoRoom, TooLong}
 use Rattle.words.specs.declared.Written.{Written}
 use Rattle.words.specs.declared.Written.the-variants as W
 use Rattle.words.proofs.Cases.{by-order}
+use Rattle.words.proofs.LaysExactly.{laid-fits, laid-no-room, count-fits, lays-exactly}
 use Rattle.words.proofs.OneMeaning.{same-written, apart, refused-same}
 use Rattle.groups.specs.Begins.{Begins}
 use Rattle.groups.specs.Group.{Bytes}
 use Rattle.lists.specs.Lists.{forms, listLimit}
 use Rattle.lists.specs.Promise.{WritesList}
 use Rattle.claims.specs.Kinds.{Kind, loop64, recursive64, unsigned32, signed64, Value, number, ReadsAs, form, OfWidth, WritesAs}
-use Rattle.claims.specs.OfNumbers.{LaysExactly, Writes, WriteRead, ReadWrite, MoreBehind, SomeByte}
+use Rattle.claims.specs.OfNumbers.{Writes, WriteRead, ReadWrite, MoreBehind, SomeByte}
 use Rattle.claims.specs.OfLists.{WritesLists}
 use Rattle.claims.proofs.Readers.{reading-of, number-says, read-number}
-
--- what is promised of a write, by its room
-module _ (bytes s : List ℕ) (at : ℕ) (r : Written) (out : List ℕ) (w : Lays bytes s at r out) where
-  fits : at + length bytes ≤ length s → (r ≡ W.Bytes (record { 0 = length bytes })) × (out ≡ take at s ++ bytes ++ drop (at + length bytes) s)
-  unfolding writing laid
-  fits h =
-      let t = le-leb (at + length bytes) (length s) h in
-      (same-written r (W.Bytes (record { 0 = length bytes })) (w .answer ∙ rw t), w .leaves ∙ rw t)
-
-  no-room : length s < at + length bytes → (r ≡ W.Refused NoRoom) × (out ≡ s)
-  unfolding writing laid
-  no-room h =
-      let t = lt-leb (at + length bytes) (length s) h in
-      (same-written r (W.Refused NoRoom) (w .answer ∙ rw t), w .leaves ∙ rw t)
-
-  bytes-fit : (n : Count) → r ≡ W.Bytes n → (at + length bytes ≤ length s) × (n .0 ≡ length bytes)
-  bytes-fit n e =
-      by-order (length s) (at + length bytes)
-      (λ h. apart (ap meansWritten (sym e ∙ no-room h .0)))
-      (λ h. let q : gives (n .0) ≡ gives (length bytes) = ap meansWritten (sym e ∙ fits h .0) in (h, cc))
-
-  kept : length out ≡ length s
-  kept =
-      by-order (length s) (at + length bytes) (λ h. ap length (no-room h .1))
-      (λ h.
-      ap length (fits h .1)
-      ∙ simp (length-append, length-drop, length-take-le at s (omega arith)) (omega arith))
-
-  exactly : LaysExactly bytes s at r out
-  exactly = (
-    (fits, λ p. bytes-fit _ (p .0) .0),
-    (no-room, λ p. by-order (length s) (at + length bytes) (λ h. h) (λ h. apart (ap meansWritten (sym (fits h .0) ∙ p .0)))),
-    kept,
-  )
 
 -- each writer lays its form down
 pub lays-form : (k : Kind) (v : Value k) {s out : List ℕ} {at : ℕ} {r : Written} → WritesAs k v s at r out → Lays (form k v) s at r out
@@ -74,7 +41,7 @@ lays-form unsigned32 v p = p
 lays-form signed64 v p = p
 
 pub writes : (k : Kind) → Writes k
-writes k v before at r after p = exactly (form k v) before at r after (lays-form k v p)
+writes k v before at r after p = lays-exactly (form k v) before at r after (lays-form k v p)
 
 -- a list no longer than the limit is laid down as one number's form is
 lays-list : (ns s : List ℕ) (at : ℕ) (r : Written) (out : List ℕ) → WritesList ns s at r out → length ns ≤ listLimit → Lays (forms ns) s at r out
@@ -89,19 +56,19 @@ writes-list ns before at r after w = (
         (same-written r (W.Refused TooLong) (w .answer ∙ rw t), w .leaves ∙ rw t),
     λ e. by-order listLimit (length ns) (λ h. h) (λ h. absurd (never (e .0) (lays-list ns before at r after w h))),
   ),
-  λ h. exactly (forms ns) before at r after (lays-list ns before at r after w h),
+  λ h. lays-exactly (forms ns) before at r after (lays-list ns before at r after w h),
 )
   where
     never : r ≡ W.Refused TooLong → Lays (forms ns) before at r after → ⊥
     never e l =
         by-order (length before) (at + length (forms ns))
-        (λ h. let z = refused-same NoRoom TooLong (ap meansWritten (sym (no-room (forms ns) before at r after l h .0) ∙ e)) in let q : _≡_ {A = ℕ} 5 7 = ap numberOf z in absurd (omega arith))
-        (λ h. apart (ap meansWritten (sym (fits (forms ns) before at r after l h .0) ∙ e)))
+        (λ h. let z = refused-same NoRoom TooLong (ap meansWritten (sym (laid-no-room (forms ns) before at r after l h .0) ∙ e)) in let q : _≡_ {A = ℕ} 5 7 = ap numberOf z in absurd (omega arith))
+        (λ h. apart (ap meansWritten (sym (laid-fits (forms ns) before at r after l h .0) ∙ e)))
 
 pub write-read : (k : Kind) → WriteRead k
 write-read k v before at n after r of-width p q =
-    let b = bytes-fit (form k v) before at (W.Bytes n) after (lays-form k v p) n refl in
-    let e = fits (form k v) before at (W.Bytes n) after (lays-form k v p) (b .0) .1 in
+    let b = count-fits (form k v) before at (W.Bytes n) after (lays-form k v p) n refl in
+    let e = laid-fits (form k v) before at (W.Bytes n) after (lays-form k v p) (b .0) .1 in
     let rest = drop (at + length (form k v)) before in
     let t : length (take at before) ≡ at = length-take-le at before (omega (arith, b .0)) in
     read-number k after at r v n q (reading-of k .begun after at v (n .0) (record {
@@ -140,7 +107,7 @@ module _ (k : Kind) (s : List ℕ) (at : ℕ) (v : Value k) (n : Count) (bytes :
 pub read-write : (k : Kind) → ReadWrite k
 read-write k s at v n r after bytes p q =
     let h = taken k s at v n bytes p in
-    let f = fits (form k v) s at r after (lays-form k v q) h in
+    let f = laid-fits (form k v) s at r after (lays-form k v q) h in
     (f .0 ∙ ap (λ (m : ℕ). W.Bytes (record { 0 = m })) (sym (stands k s at v n bytes p .count)), f .1 ∙ put-back k s at v n bytes p)
 
 pub more-behind : (k : Kind) → MoreBehind k

@@ -8,7 +8,6 @@
 --   TakesAs       what its length promises: `length_u64` (for both of 64 bits), `length_u32`, `length_i64`
 --   width, form   its row of document 01's table, and the shortest form of a number
 --   OfWidth       the numbers of the width
---   Both          a promise of an answer and of what is left in lent memory, of the two as one thing
 use Prim.Native.Nat.{ℕ, _^_, _<_}
 use mathlib.Core.List.{List}
 use lib.IntN.{ℤ, pos, negℤ}
@@ -91,7 +90,3 @@ TakesAs loop64 v r = LengthU64 v r
 TakesAs recursive64 v r = LengthU64 v r
 TakesAs unsigned32 v r = LengthU32 v r
 TakesAs signed64 v r = LengthI64 v r
-
--- an answer and the final content of what was lent
-abbrev pub Both : {A B : Type 0} → (A → B → Type 0) → A × B → Type 0
-Both P x = P (x .0) (x .1)

@@ -23,7 +23,6 @@ use Rattle.listing.specs.declared.Listing.{Listing}
 use Rattle.listing.specs.declared.Next.{Next}
 use Rattle.listing.specs.declared.Listing.the-variants as L
 use Rattle.listing.specs.declared.Next.the-variants as X
-use Rattle.claims.specs.Kinds.{Both}
 
 abbrev pub Digits : Type 0
 Digits = (v : ℕ) → (v < 10 → decimal v ≡ (48 + v) ∷ []) × (10 ≤ v → decimal v ≡ decimal (v / 10) ++ (48 + v % 10) ∷ [])
@@ -48,8 +47,8 @@ pub record Document : Type 0 where
 
 -- Each promise is met by some answer, with some final content of what was lent, on every input: no claim over promises is empty.
 pub record ListingMet : Type 0 where
-  pub text : (t s : List ℕ) (at : ℕ) → (x : ℕ × List ℕ) × Both (LaysText t s at) x
-  pub line : (g : Listing) (s before : List ℕ) → Bytes s → (x : Next × List ℕ) × Both (GivesLine g s before) x
+  pub text : (t s : List ℕ) (at : ℕ) → (r : ℕ) × (out : List ℕ) × LaysText t s at r out
+  pub line : (g : Listing) (s before : List ℕ) → Bytes s → (r : Next) × (after : List ℕ) × GivesLine g s before r after
 
 -- And by no second: no second answer, and no second final content of what was lent.
 pub record ListingOne : Type 0 where

@@ -15,6 +15,7 @@ use mathlib.Core.Path.{_≡_}
 use mathlib.Core.List.{List, _++_, [], _∷_}
 use mathlib.Core.Logic.{_↔_}
 use lib.ListN.{length, take, drop}
+use Rattle.words.specs.Lays.{LaysExactly}
 use Rattle.words.specs.declared.Count.{Count}
 use Rattle.words.specs.declared.Refusal.the-variants.{TooLong, End, NoRoom}
 use Rattle.words.specs.declared.Written.{Written}
@@ -27,8 +28,6 @@ use Rattle.lists.specs.Lists.{forms, listLimit}
 use Rattle.lists.specs.Promise.{WritesList, ReadsStrict}
 use Rattle.lists.specs.declared.ReadList.{ReadList}
 use Rattle.lists.specs.declared.ReadList.the-variants as L
-use Rattle.claims.specs.Kinds.{Both}
-use Rattle.claims.specs.OfNumbers.{LaysExactly}
 use Rattle.claims.specs.Table.{GapRow}
 
 abbrev pub Of64Bits : List ℕ → Type 0
@@ -76,8 +75,8 @@ ListBack = (ns before : List ℕ) (at : ℕ) (n : Count) (after old : List ℕ) 
 
 -- Each promise is met by some answer, with some final content of what was lent, on every input: no claim over promises is empty.
 pub record ListsMet : Type 0 where
-  pub strict : (s old : List ℕ) → Bytes s → (x : ReadList × List ℕ) × Both (ReadsStrict s old) x
-  pub list : (ns s : List ℕ) (at : ℕ) → (x : Written × List ℕ) × Both (WritesList ns s at) x
+  pub strict : (s old : List ℕ) → Bytes s → (r : ReadList) × (out : List ℕ) × ReadsStrict s old r out
+  pub list : (ns s : List ℕ) (at : ℕ) → (r : Written) × (out : List ℕ) × WritesList ns s at r out
 
 -- And by no second: no second answer, and no second final content of what was lent.
 pub record ListsOne : Type 0 where

@@ -1,7 +1,7 @@
 -- What is claimed of numbers: demand 2, how a number is spelled, and what the source says of it, over the promises that the functions' `ensures` are.
 --
 --   Accepts, Refuses, Excludes, Exhausts             demand 2, readers
---   Writes (by LaysExactly)                          demand 2, writers
+--   Writes                                           demand 2, writers
 --   Shortest, Most, mostBytes, zeroOf                how a number is spelled, in how many bytes, and zero
 --   TwosComplement, Within, SignedForm, OneTooMany   how a signed number is spelled
 --   WriteRead, ReadWrite, MoreBehind, SomeByte       round trips, and what the source calls prefix-secure and productive
@@ -16,12 +16,12 @@ use mathlib.Core.Logic.{_↔_, _⊎_}
 use mathlib.Core.Option.{some, none}
 use lib.IntN.{ℤ, pos, negℤ, _+ℤ_}
 use lib.Signed.{_≤ℤ_, _<ℤ_}
-use lib.ListN.{length, take, drop}
+use lib.ListN.{length}
 use Rattle.words.specs.Answer.{gives, refused, Why}
+use Rattle.words.specs.Lays.{LaysExactly}
 use Rattle.words.specs.Promise.{Numbered, HasRoom}
 use Rattle.words.specs.declared.Count.{Count}
 use Rattle.words.specs.declared.Refusal.{Refusal}
-use Rattle.words.specs.declared.Refusal.the-variants.{NoRoom}
 use Rattle.words.specs.declared.Written.{Written}
 use Rattle.words.specs.declared.Written.the-variants as W
 use Rattle.groups.specs.Begins.{Begins}
@@ -34,7 +34,7 @@ use Rattle.uleb128.specs.Promise.{ReadsU64, WritesU64}
 use Rattle.uleb128.specs.declared.ReadU64.{ReadU64}
 use Rattle.uleb128_rec.specs.Promise.{ReadsU64Rec, WritesU64Rec}
 use Rattle.sleb128.specs.Signed as signed
-use Rattle.claims.specs.Kinds.{Kind, loop64, recursive64, unsigned32, signed64, Value, Reply, number, refuse, ReadsAs, width, form, OfWidth, WritesAs, TakesAs, Both}
+use Rattle.claims.specs.Kinds.{Kind, loop64, recursive64, unsigned32, signed64, Value, Reply, number, refuse, ReadsAs, width, form, OfWidth, WritesAs, TakesAs}
 use Rattle.claims.specs.Table.{Row}
 use Rattle.claims.specs.Source.{specParse, specSerializeHelper}
 use Rattle.claims.specs.Try.{Starred}
@@ -60,15 +60,7 @@ abbrev pub Exhausts : Kind → Type 0
 Exhausts k = (s : List ℕ) (at : ℕ) → Bytes s →
     ((why : Refusal) × Row (width k) s at why) ⊎ ((v : Value k) × (n : ℕ) × Begins (form k) (OfWidth k) s at v n)
 
--- A writer answers the count and leaves exactly the form at the place and all else kept, or answers 5 and leaves every byte, the
--- latter exactly when place + bytes needed > buffer length.
-abbrev pub LaysExactly : (bytes before : List ℕ) (at : ℕ) (r : Written) (after : List ℕ) → Type 0
-LaysExactly bytes before at r after =
-    ((at + length bytes ≤ length before)
-    ↔ ((r ≡ W.Bytes (record { 0 = length bytes })) × (after ≡ take at before ++ bytes ++ drop (at + length bytes) before)))
-    × ((length before < at + length bytes) ↔ ((r ≡ W.Refused NoRoom) × (after ≡ before)))
-    × (length after ≡ length before)
-
+-- A writer lays exactly the form of the number down.
 abbrev pub Writes : Kind → Type 0
 Writes k = (v : Value k) (before : List ℕ) (at : ℕ) (r : Written) (after : List ℕ) → WritesAs k v before at r after
     → LaysExactly (form k v) before at r after
@@ -147,9 +139,9 @@ pub record NumbersMet : Type 0 where
   pub number : (why : Refusal) → (n : ℕ) × Numbered why n
   pub room : (size at n : ℕ) → (r : Bool) × HasRoom size at n r
   pub walk : (s : List ℕ) (at : ℕ) → (r : Walked) × Walks s at r
-  pub store : (m : ℕ) (below : Bool) (n : ℕ) (s : List ℕ) (at : ℕ) → (x : Written × List ℕ) × Both (Stores m below n s at) x
+  pub store : (m : ℕ) (below : Bool) (n : ℕ) (s : List ℕ) (at : ℕ) → (r : Written) × (out : List ℕ) × Stores m below n s at r out
   pub reply : (k : Kind) (s : List ℕ) (at : ℕ) → (r : Reply k) × ReadsAs k s at r
-  pub written : (k : Kind) (v : Value k) (s : List ℕ) (at : ℕ) → (x : Written × List ℕ) × Both (WritesAs k v s at) x
+  pub written : (k : Kind) (v : Value k) (s : List ℕ) (at : ℕ) → (r : Written) × (out : List ℕ) × WritesAs k v s at r out
   pub length : (k : Kind) (v : Value k) → (n : Count) × TakesAs k v n
 
 -- And by no second: no second answer, and no second final content of what was lent.

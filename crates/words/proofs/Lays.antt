@@ -65,10 +65,10 @@ module _ (bytes s : List ℕ) (at : ℕ) where
       let t = le-leb (at + length bytes) (length s) h in
       record { answer = rw t (ap gives e); leaves = rw t f }
 
-  pub some-lays : (x : Written × List ℕ) × Lays bytes s at (x .0) (x .1)
+  pub some-lays : (r : Written) × (out : List ℕ) × Lays bytes s at r out
   some-lays =
-      by-order (length s) (at + length bytes) (λ h. ((Refused NoRoom, s), no-room h))
-      (λ h. ((Bytes (record { 0 = length bytes }), take at s ++ bytes ++ drop (at + length bytes) s), fits-there (record { 0 = length bytes }) h refl refl))
+      by-order (length s) (at + length bytes) (λ h. (Refused NoRoom, s, no-room h))
+      (λ h. (Bytes (record { 0 = length bytes }), take at s ++ bytes ++ drop (at + length bytes) s, fits-there (record { 0 = length bytes }) h refl refl))
 
 -- what a writer's answer says where there is room
 module _ {bytes s : List ℕ} {at : ℕ} {r : Written} {out : List ℕ} (room : at + length bytes ≤ length s) (l : Lays bytes s at r out) where

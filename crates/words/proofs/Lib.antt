@@ -2,3 +2,4 @@ pub mod Cases
 pub mod OneNumber
 pub mod Lays
 pub mod OneMeaning
+pub mod LaysExactly

@@ -1,6 +1,6 @@
 -- Document 01, "When the number desk refuses": the number of each refusal.
 --
---   numberOf   the number of a refusal, 1 to 8
+--   numberOf   the number of a refusal
 use Prim.Native.Nat.{ℕ}
 use Rattle.words.specs.declared.Refusal.{Refusal}
 use Rattle.words.specs.declared.Refusal.the-variants.{End, Overflow, NotShortest, Place, NoRoom, NotAStart, TooLong, NoStart}

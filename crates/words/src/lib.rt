@@ -26,7 +26,7 @@ pub enum Written {
     Refused(Refusal),
 }
 
-// The number of a refusal, 1 to 8.
+// The number of a refusal.
 pub fn number(refusal: Refusal) -> u8
     ensures { λ r. ⌜ Numbered refusal r ⌝ }
 {

@@ -7,11 +7,8 @@ use Rattle.blocks.proofs.is_start.Tie as tie
 returns : tie.Need-returns
 returns c = front-is-start _ _ (c .if1 .taken)
 
-shared-slice-read-b : tie.Need-shared-slice-read-b
-shared-slice-read-b c = search needs
-
 returns-2 : tie.Need-returns-2
 returns-2 c = low-is-start _ _ (c .before .if1 .left)
 
 pub is-start-spec : {M : Type 1} → statement M
-is-start-spec = tie.close (tie.spec returns shared-slice-read-b returns-2)
+is-start-spec = tie.close (tie.spec returns (λ c. search needs) returns-2)

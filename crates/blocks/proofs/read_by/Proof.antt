@@ -3,18 +3,6 @@ use borrow.Author.Needs.{needs}
 use Rattle.blocks.proofs.read_by.Statement.{statement}
 use Rattle.blocks.proofs.read_by.Tie as tie
 
-enum-told : tie.Need-enum-told
-enum-told c = search needs
-
-unsigned-reading-requires : tie.Need-unsigned-reading-requires
-unsigned-reading-requires c κs = search needs
-
-enum-told-2 : tie.Need-enum-told-2
-enum-told-2 c = search needs
-
-signed-reading-requires : tie.Need-signed-reading-requires
-signed-reading-requires c κs = search needs
-
 returns : tie.Need-returns
 returns c = rw (c .before .enum-told .given .1) (c .unsigned-reading .ensures)
 
@@ -24,10 +12,4 @@ returns-2 c = rw (c .before .enum-told2 .given .1) (c .signed-reading .ensures)
 pub read-by-spec : {M : Type 1} → statement M
 read-by-spec =
     tie.close
-    (tie.spec
-    enum-told
-    unsigned-reading-requires
-    enum-told-2
-    signed-reading-requires
-    returns
-    returns-2)
+    (tie.spec (λ c. search needs) (λ c κs. search needs) (λ c. search needs) (λ c κs. search needs) returns returns-2)

@@ -17,14 +17,8 @@ returns-2 c = set-past _ _ (c .before .if1 .left) (c .if2 .taken)
 returns-3 : tie.Need-returns-3
 returns-3 c = set-front _ _ (c .before .before .if1 .left) (c .before .if2 .left) _ refl (c .if3 .taken)
 
-high-run-requires : tie.Need-high-run-requires
-high-run-requires c κs = search needs
-
 add-last : tie.Need-add-last
 add-last c = omega (arith, c .high-run .ensures, run-inside (c .before .before .before .before .before .args .block .now) (c .before .before .before .before .before .args .place .0 - 1) (search needs))
-
-past-requires : tie.Need-past-requires
-past-requires c κs = search needs
 
 returns-4 : tie.Need-returns-4
 returns-4 c =
@@ -37,12 +31,4 @@ returns-5 c =
 pub set-down-spec : {M : Type 1} → statement M
 set-down-spec =
     tie.close
-    (tie.spec
-    returns
-    returns-2
-    returns-3
-    high-run-requires
-    add-last
-    past-requires
-    returns-4
-    returns-5)
+    (tie.spec returns returns-2 returns-3 (λ c κs. search needs) add-last (λ c κs. search needs) returns-4 returns-5)

@@ -7,15 +7,6 @@ use Rattle.blocks.proofs.GroupReading.{valued-as}
 use Rattle.blocks.proofs.signed_reading.Statement.{statement}
 use Rattle.blocks.proofs.signed_reading.Tie as tie
 
-read-i64-requires : tie.Need-read-i64-requires
-read-i64-requires c κs = search needs
-
-enum-known-v : tie.Need-enum-known-v
-enum-known-v c = search needs
-
-enum-known-refusal : tie.Need-enum-known-refusal
-enum-known-refusal c = search needs
-
 returns : tie.Need-returns
 returns c = record { is = rw (word-back _ (c .known-told .given .0 .1)) (valued-as meansReadI64 signed (c .before .before .before .read-i64 .ensures .is) (c .before .v .given .1)) }
 
@@ -24,4 +15,5 @@ returns-2 c = record { is = valued-as meansReadI64 signed (c .before .before .be
 
 pub signed-reading-spec : {M : Type 1} → statement M
 signed-reading-spec =
-    tie.close (tie.spec read-i64-requires enum-known-v enum-known-refusal returns returns-2)
+    tie.close
+    (tie.spec (λ c κs. search needs) (λ c. search needs) (λ c. search needs) returns returns-2)

@@ -6,15 +6,6 @@ use Rattle.blocks.proofs.GroupReading.{valued-as}
 use Rattle.blocks.proofs.unsigned_reading.Statement.{statement}
 use Rattle.blocks.proofs.unsigned_reading.Tie as tie
 
-read-u64-requires : tie.Need-read-u64-requires
-read-u64-requires c κs = search needs
-
-enum-known-v : tie.Need-enum-known-v
-enum-known-v c = search needs
-
-enum-known-refusal : tie.Need-enum-known-refusal
-enum-known-refusal c = search needs
-
 returns : tie.Need-returns
 returns c = record { is = valued-as meansReadU64 unsigned (c .before .before .before .read-u64 .ensures .is) (c .before .v .given .1) }
 
@@ -23,4 +14,5 @@ returns-2 c = record { is = valued-as meansReadU64 unsigned (c .before .before .
 
 pub unsigned-reading-spec : {M : Type 1} → statement M
 unsigned-reading-spec =
-    tie.close (tie.spec read-u64-requires enum-known-v enum-known-refusal returns returns-2)
+    tie.close
+    (tie.spec (λ c κs. search needs) (λ c. search needs) (λ c. search needs) returns returns-2)

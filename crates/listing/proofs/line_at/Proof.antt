@@ -23,48 +23,6 @@ said : (c : tie.After-step) {x : Step} → c .step .result ≡ x
     → next (start c .args .block .now) (at (start c .args .cursor .place .0)) ≡ lineOf (start c .args .cursor .place .0) (meansStep x)
 said c e = ap (lineOf (start c .args .cursor .place .0)) (sym (c .step .ensures .is) ∙ ap meansStep e)
 
-step-requires : tie.Need-step-requires
-step-requires c κs = search needs
-
-enum-known-value : tie.Need-enum-known-value
-enum-known-value c = search needs
-
-enum-known-value-2 : tie.Need-enum-known-value-2
-enum-known-value-2 c = search needs
-
-slice-aggregate-row : tie.Need-slice-aggregate-row
-slice-aggregate-row c = search needs
-
-row-requires : tie.Need-row-requires
-row-requires c κs = search needs
-
-enum-told : tie.Need-enum-told
-enum-told c = search needs
-
-enum-known-refusal : tie.Need-enum-known-refusal
-enum-known-refusal c = search needs
-
-gap-row-requires : tie.Need-gap-row-requires
-gap-row-requires c κs = search needs
-
-enum-known-count : tie.Need-enum-known-count
-enum-known-count c = search needs
-
-slice-aggregate-row-2 : tie.Need-slice-aggregate-row-2
-slice-aggregate-row-2 c = search needs
-
-row-requires-2 : tie.Need-row-requires-2
-row-requires-2 c κs = search needs
-
-enum-told-2 : tie.Need-enum-told-2
-enum-told-2 c = search needs
-
-enum-known-refusal-2 : tie.Need-enum-known-refusal-2
-enum-known-refusal-2 c = search needs
-
-same-length : tie.Need-same-length
-same-length c = search needs
-
 returns : tie.Need-returns
 returns c =
     let numbered = c .before .before .before .before .before in
@@ -79,18 +37,12 @@ returns-2 c =
     let s = valued .before .before in
     line-none (start s .pre) (rw (c .enum-told .given .1) at (said s (valued .value .given .1)))
 
-same-length-2 : tie.Need-same-length-2
-same-length-2 c = search needs
-
 returns-3 : tie.Need-returns-3
 returns-3 c =
     let told = c .before .before .before .before in
     let s = told .before .before .before in
     line-comes (start s .pre) (said s (told .before .refusal .given .1))
     (row-fits _ _ _ (place-fits s) (told .known-told3 .given .1 .0 .1 .1 .0 .1) (fault-short (because (told .before .refusal .given .0 .0)))) (c .before .before .gap-row .ensures)
-
-same-length-3 : tie.Need-same-length-3
-same-length-3 c = search needs
 
 returns-4 : tie.Need-returns-4
 returns-4 c =
@@ -112,26 +64,7 @@ returns-6 c =
 pub line-at-spec : {M : Type 1} → statement M
 line-at-spec =
     tie.close
-    (tie.spec
-    step-requires
-    enum-known-value
-    enum-known-value-2
-    slice-aggregate-row
-    row-requires
-    enum-told
-    enum-known-refusal
-    gap-row-requires
-    enum-known-count
-    slice-aggregate-row-2
-    row-requires-2
-    enum-told-2
-    enum-known-refusal-2
-    same-length
-    returns
-    returns-2
-    same-length-2
-    returns-3
-    same-length-3
-    returns-4
-    returns-5
-    returns-6)
+    (tie.spec (λ c κs. search needs) (λ c. search needs) (λ c. search needs) (λ c. search needs) (λ c κs. search needs)
+    (λ c. search needs) (λ c. search needs) (λ c κs. search needs) (λ c. search needs) (λ c. search needs)
+    (λ c κs. search needs) (λ c. search needs) (λ c. search needs) (λ c. search needs) returns returns-2
+    (λ c. search needs) returns-3 (λ c. search needs) returns-4 returns-5 returns-6)

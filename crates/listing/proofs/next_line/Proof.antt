@@ -10,50 +10,17 @@ use Rattle.listing.proofs.next_line.Tie as tie
 returns : tie.Need-returns
 returns c = line-no-room (c .if1 .taken)
 
-enum-told : tie.Need-enum-told
-enum-told c = search needs
-
-slice-aggregate-word : tie.Need-slice-aggregate-word
-slice-aggregate-word c = search needs
-
-word-requires : tie.Need-word-requires
-word-requires c κs = search needs
-
-same-length : tie.Need-same-length
-same-length c = search needs
-
 returns-2 : tie.Need-returns-2
 returns-2 c =
     let long = c .before .before .before .before .before in
     let top = long .before in
     line-comes (top .before .before .if1 .left) (rw (top .enum-told .given .1, lt-ltb blockLimit _ (long .if2 .taken))) (omega arith) (c .before .before .word .ensures)
 
-slice-aggregate-word-2 : tie.Need-slice-aggregate-word-2
-slice-aggregate-word-2 c = search needs
-
-word-requires-2 : tie.Need-word-requires-2
-word-requires-2 c κs = search needs
-
-enum-known-listing : tie.Need-enum-known-listing
-enum-known-listing c = search needs
-
-line-at-requires : tie.Need-line-at-requires
-line-at-requires c κs = search needs
-
-enum-told-2 : tie.Need-enum-told-2
-enum-told-2 c = search needs
-
-same-length-2 : tie.Need-same-length-2
-same-length-2 c = search needs
-
 returns-3 : tie.Need-returns-3
 returns-3 c =
     let short = c .before .before .before .before .before in
     let top = short .before in
     line-comes (top .before .before .if1 .left) (rw (top .enum-told .given .1, le-ltb blockLimit _ (short .if2 .left))) (omega arith) (c .before .before .word2 .ensures)
-
-same-length-3 : tie.Need-same-length-3
-same-length-3 c = search needs
 
 returns-4 : tie.Need-returns-4
 returns-4 c = rw (c .before .before .before .before .before .listing .given .1) (c .before .before .line-at .ensures)
@@ -64,20 +31,6 @@ returns-5 c = line-none (c .before .before .if1 .left) (rw (c .enum-told2 .given
 pub next-line-spec : {M : Type 1} → statement M
 next-line-spec =
     tie.close
-    (tie.spec
-    returns
-    enum-told
-    slice-aggregate-word
-    word-requires
-    same-length
-    returns-2
-    slice-aggregate-word-2
-    word-requires-2
-    enum-known-listing
-    line-at-requires
-    enum-told-2
-    same-length-2
-    returns-3
-    same-length-3
-    returns-4
-    returns-5)
+    (tie.spec returns (λ c. search needs) (λ c. search needs) (λ c κs. search needs) (λ c. search needs) returns-2
+    (λ c. search needs) (λ c κs. search needs) (λ c. search needs) (λ c κs. search needs) (λ c. search needs)
+    (λ c. search needs) returns-3 (λ c. search needs) returns-4 returns-5)

@@ -27,26 +27,11 @@ line-took c = line-given (asked c .before .before .loop .inv .1) (asked c .next-
 loop-holds : tie.Need-loop-holds Inv-loop μ-loop
 loop-holds c = (refl, tt)
 
-next-line-requires : tie.Need-next-line-requires Inv-loop μ-loop
-next-line-requires c κs = search needs
-
-enum-known-count : tie.Need-enum-known-count Inv-loop μ-loop
-enum-known-count c = search needs
-
 slice-reshare-prefix-write-all : tie.Need-slice-reshare-prefix-write-all Inv-loop μ-loop
 slice-reshare-prefix-write-all c = line-took c .within
 
 slice-aggregate-write-all : tie.Need-slice-aggregate-write-all Inv-loop μ-loop
 slice-aggregate-write-all c = sym (length-take-le _ _ (line-took (c .before) .within))
-
-write-all-requires : tie.Need-write-all-requires Inv-loop μ-loop
-write-all-requires c κs = search needs
-
-same-length : tie.Need-same-length Inv-loop μ-loop
-same-length c = search needs
-
-returns : tie.Need-returns Inv-loop μ-loop
-returns c = search needs
 
 loop-less : tie.Need-loop-less Inv-loop μ-loop
 loop-less c = line-took (c .before .before .before) .falls
@@ -54,27 +39,9 @@ loop-less c = line-took (c .before .before .before) .falls
 loop-again : tie.Need-loop-again Inv-loop μ-loop
 loop-again c = (search needs, line-took (c .before .before .before) .fine)
 
-same-length-2 : tie.Need-same-length-2 Inv-loop μ-loop
-same-length-2 c = search needs
-
-returns-2 : tie.Need-returns-2 Inv-loop μ-loop
-returns-2 c = search needs
-
 pub write-lines-spec : {M : Type 1} → statement M
 write-lines-spec =
     tie.close
-    (tie.spec
-    Inv-loop
-    μ-loop
-    loop-holds
-    next-line-requires
-    enum-known-count
-    slice-reshare-prefix-write-all
-    slice-aggregate-write-all
-    write-all-requires
-    same-length
-    returns
-    loop-less
-    loop-again
-    same-length-2
-    returns-2)
+    (tie.spec Inv-loop μ-loop loop-holds (λ c κs. search needs) (λ c. search needs) slice-reshare-prefix-write-all
+    slice-aggregate-write-all (λ c κs. search needs) (λ c. search needs) (λ c. search needs) loop-less loop-again
+    (λ c. search needs) (λ c. search needs))

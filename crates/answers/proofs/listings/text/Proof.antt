@@ -43,5 +43,6 @@ loop-again c = (search needs, search needs, given-line (c .before .before .befor
 pub text-spec : {M : Type 1} → statement M
 text-spec =
     tie.close
-    (tie.spec Inv-loop μ-loop loop-holds (search needs) (search needs) slice-reshare-prefix-hex slice-aggregate-hex
-    (search needs) loop-less loop-again (search needs) (search needs) (search needs))
+    (tie.spec Inv-loop μ-loop loop-holds (λ c κs. search needs) (λ c. search needs) slice-reshare-prefix-hex
+    slice-aggregate-hex (λ c κs. search needs) loop-less loop-again (λ c. search needs) (λ c. search needs)
+    (λ c. search needs))

@@ -8,4 +8,4 @@ returns-2 : tie.Need-returns-2
 returns-2 c = twice _ (c .before .fits .a)
 
 pub signed-spec : {M : Type 1} → statement M
-signed-spec = tie.close (tie.spec (search needs) (search needs) (search needs) returns-2)
+signed-spec = tie.close (tie.spec (λ c. search needs) (λ c. search needs) (λ c. search needs) returns-2)

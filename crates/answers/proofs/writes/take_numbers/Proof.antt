@@ -21,5 +21,5 @@ loop-again c = (simp length-set (search needs), simp length-set (search needs))
 pub take-numbers-spec : {M : Type 1} → statement M
 take-numbers-spec =
     tie.close
-    (tie.spec Inv-loop μ-loop (search needs) (search needs) (search needs) (search needs) (search needs) (search needs)
-    loop-less loop-again (search needs) (search needs))
+    (tie.spec Inv-loop μ-loop (λ c. search needs) (λ c. search needs) (λ c κs. search needs) (λ c. search needs)
+    (λ c. search needs) (λ c. search needs) loop-less loop-again (λ c. search needs) (λ c. search needs))

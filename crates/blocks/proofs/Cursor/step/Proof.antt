@@ -26,15 +26,9 @@ returns-2 c = step-past _ _ _ (c .before .if1 .left) (c .if2 .taken)
 returns-3 : tie.Need-returns-3
 returns-3 c = step-finished _ _ _ (c .before .before .if1 .left) _ refl (c .before .if2 .left) (c .if3 .taken)
 
-is-start-requires : tie.Need-is-start-requires
-is-start-requires c κs = search needs
-
 returns-4 : tie.Need-returns-4
 returns-4 c =
     step-not-a-start _ _ _ (search needs) (search needs) (sym (c .before .is-start .ensures) ∙ not-true _ (c .if4 .taken))
-
-high-run-requires : tie.Need-high-run-requires
-high-run-requires c κs = search needs
 
 add-last : tie.Need-add-last
 add-last c =
@@ -44,15 +38,6 @@ add-last c =
 returns-5 : tie.Need-returns-5
 returns-5 c =
     step-tail _ _ _ (search needs) (search needs) (starts (c .before .before)) _ _ (c .before .high-run .ensures) refl (rw (c .before .high-run .ensures) at (c .if5 .taken))
-
-add-count : tie.Need-add-count
-add-count c = search needs
-
-read-by-requires : tie.Need-read-by-requires
-read-by-requires c κs = search needs
-
-group-requires : tie.Need-group-requires
-group-requires c κs = search needs
 
 returns-6 : tie.Need-returns-6
 returns-6 c =
@@ -66,16 +51,5 @@ returns-6 c =
 pub step-spec : {M : Type 1} → statement M
 step-spec =
     tie.close
-    (tie.spec
-    returns
-    returns-2
-    returns-3
-    is-start-requires
-    returns-4
-    high-run-requires
-    add-last
-    returns-5
-    add-count
-    read-by-requires
-    group-requires
-    returns-6)
+    (tie.spec returns returns-2 returns-3 (λ c κs. search needs) returns-4 (λ c κs. search needs) add-last returns-5
+    (λ c. search needs) (λ c κs. search needs) (λ c κs. search needs) returns-6)

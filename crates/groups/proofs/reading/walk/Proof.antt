@@ -29,17 +29,11 @@ returns c = walk-past _ _ (c .if1 .taken)
 loop-holds : tie.Need-loop-holds Inv-loop μ-loop
 loop-holds c = none-walked _ _ (c .if1 .left)
 
-shared-slice-read-b : tie.Need-shared-slice-read-b Inv-loop μ-loop
-shared-slice-read-b c = search needs
-
 returns-2 : tie.Need-returns-2 Inv-loop μ-loop
 returns-2 c = walk-closes _ _ (c .before .before .before .loop .inv) (search needs) (c .if2 .taken)
 
 returns-3 : tie.Need-returns-3 Inv-loop μ-loop
 returns-3 c = walk-overruns _ _ (c .before .before .before .before .loop .inv) (search needs) (c .before .if2 .left) (c .if3 .taken)
-
-low-bits-requires : tie.Need-low-bits-requires Inv-loop μ-loop
-low-bits-requires c κs = search needs
 
 mul-part : tie.Need-mul-part Inv-loop μ-loop
 mul-part c = omega (arith, fits c)
@@ -49,15 +43,6 @@ add-sum c = omega (arith, fits c)
 
 mul-weight : tie.Need-mul-weight Inv-loop μ-loop
 mul-weight c = omega (arith, weight-fits _ _ (head c .loop .inv) (few c))
-
-add-high : tie.Need-add-high Inv-loop μ-loop
-add-high c = search needs
-
-add-place : tie.Need-add-place Inv-loop μ-loop
-add-place c = search needs
-
-loop-less : tie.Need-loop-less Inv-loop μ-loop
-loop-less c = search needs
 
 loop-again : tie.Need-loop-again Inv-loop μ-loop
 loop-again c =
@@ -70,20 +55,5 @@ returns-4 c = walk-runs-dry _ _ (c .before .loop .inv) (c .loop-test .left)
 pub walk-spec : {M : Type 1} → statement M
 walk-spec =
     tie.close
-    (tie.spec
-    Inv-loop
-    μ-loop
-    returns
-    loop-holds
-    shared-slice-read-b
-    returns-2
-    returns-3
-    low-bits-requires
-    mul-part
-    add-sum
-    mul-weight
-    add-high
-    add-place
-    loop-less
-    loop-again
-    returns-4)
+    (tie.spec Inv-loop μ-loop returns loop-holds (λ c. search needs) returns-2 returns-3 (λ c κs. search needs) mul-part
+    add-sum mul-weight (λ c. search needs) (λ c. search needs) (λ c. search needs) loop-again returns-4)

@@ -17,9 +17,6 @@ Inv-loop m below count buffer₀ at n room more rest₀ i₀ buffer rest i = Sto
 abbrev μ-loop : tie.MeasureT-loop
 μ-loop m below count buffer₀ at n room more rest₀ i₀ buffer rest i = more - i
 
-has-room-requires : tie.Need-has-room-requires Inv-loop μ-loop
-has-room-requires c κs = search needs
-
 returns : tie.Need-returns Inv-loop μ-loop
 returns c = room-refused _ _ _ (c .before .has-room .ensures) (sym (length-groups _ _ _)) (not-true _ (c .if1 .taken))
 
@@ -29,43 +26,13 @@ returns-2 c = no-byte-laid _ _ _ _ _ (omega arith) (omega (arith, room-there (c 
 loop-holds : tie.Need-loop-holds Inv-loop μ-loop
 loop-holds c = none-stored _ _ _ _ _ (omega (arith, room-there (c .before .before .has-room .ensures) (not-false _ (c .before .if1 .left))))
 
-cast-bits : tie.Need-cast-bits Inv-loop μ-loop
-cast-bits c = search needs
-
-said-requires : tie.Need-said-requires Inv-loop μ-loop
-said-requires c κs = search needs
-
 add-byte : tie.Need-add-byte Inv-loop μ-loop
 add-byte c = omega (arith, c .said .ensures, say-below (c .before .before .before .before .before .before .before .args .below) (c .before .before .loop .rest % 128) (omega arith))
-
-add-to : tie.Need-add-to Inv-loop μ-loop
-add-to c = search needs
-
-slice-write-buffer : tie.Need-slice-write-buffer Inv-loop μ-loop
-slice-write-buffer c = search needs
-
-add-i : tie.Need-add-i Inv-loop μ-loop
-add-i c = search needs
-
-loop-less : tie.Need-loop-less Inv-loop μ-loop
-loop-less c = search needs
 
 loop-again : tie.Need-loop-again Inv-loop μ-loop
 loop-again c =
     rw (c .said .ensures)
     (one-stored _ _ _ _ _ (c .before .before .loop .inv) (search needs))
-
-cast-bits-2 : tie.Need-cast-bits-2 Inv-loop μ-loop
-cast-bits-2 c = search needs
-
-said-requires-2 : tie.Need-said-requires-2 Inv-loop μ-loop
-said-requires-2 c κs = search needs
-
-add-to-2 : tie.Need-add-to-2 Inv-loop μ-loop
-add-to-2 c = search needs
-
-slice-write-buffer-2 : tie.Need-slice-write-buffer-2 Inv-loop μ-loop
-slice-write-buffer-2 c = search needs
 
 same-length : tie.Need-same-length Inv-loop μ-loop
 same-length c = simp length-set (c .before .before .loop .inv .kept)
@@ -78,24 +45,6 @@ returns-3 c =
 pub store-spec : {M : Type 1} → statement M
 store-spec =
     tie.close
-    (tie.spec
-    Inv-loop
-    μ-loop
-    has-room-requires
-    returns
-    returns-2
-    loop-holds
-    cast-bits
-    said-requires
-    add-byte
-    add-to
-    slice-write-buffer
-    add-i
-    loop-less
-    loop-again
-    cast-bits-2
-    said-requires-2
-    add-to-2
-    slice-write-buffer-2
-    same-length
-    returns-3)
+    (tie.spec Inv-loop μ-loop (λ c κs. search needs) returns returns-2 loop-holds (λ c. search needs)
+    (λ c κs. search needs) add-byte (λ c. search needs) (λ c. search needs) (λ c. search needs) (λ c. search needs)
+    loop-again (λ c. search needs) (λ c κs. search needs) (λ c. search needs) (λ c. search needs) same-length returns-3)

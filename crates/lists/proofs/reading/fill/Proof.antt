@@ -31,26 +31,14 @@ loop-holds c = none-poured _ _ (c .before .before .pre)
 pass-requires : tie.Need-pass-requires Inv-loop μ-loop
 pass-requires c κs = start-here _ (c .before .loop .inv .counts) (c .loop-test .taken)
 
-enum-known-v : tie.Need-enum-known-v Inv-loop μ-loop
-enum-known-v c = search needs
-
-mul-numbers : tie.Need-mul-numbers Inv-loop μ-loop
-mul-numbers c = search needs
-
 slice-write-numbers : tie.Need-slice-write-numbers Inv-loop μ-loop
 slice-write-numbers c = one-fits _ _ (head c .before .before .before .pre) (head c .loop .inv) (passed c)
-
-add-count : tie.Need-add-count Inv-loop μ-loop
-add-count c = search needs
 
 loop-less : tie.Need-loop-less Inv-loop μ-loop
 loop-less c = omega (arith, passed c .further, passed c .start .here)
 
 loop-again : tie.Need-loop-again Inv-loop μ-loop
 loop-again c = one-poured _ _ (head c .before .before .before .pre) (head c .loop .inv) (passed c)
-
-enum-known-refusal : tie.Need-enum-known-refusal Inv-loop μ-loop
-enum-known-refusal c = search needs
 
 same-length : tie.Need-same-length Inv-loop μ-loop
 same-length c = c .before .before .before .before .before .loop .inv .kept
@@ -69,19 +57,5 @@ returns-2 c = all-poured _ _ (c .before .before .before .before .pre) (c .before
 pub fill-spec : {M : Type 1} → statement M
 fill-spec =
     tie.close
-    (tie.spec
-    Inv-loop
-    μ-loop
-    loop-holds
-    pass-requires
-    enum-known-v
-    mul-numbers
-    slice-write-numbers
-    add-count
-    loop-less
-    loop-again
-    enum-known-refusal
-    same-length
-    returns
-    same-length-2
-    returns-2)
+    (tie.spec Inv-loop μ-loop loop-holds pass-requires (λ c. search needs) (λ c. search needs) slice-write-numbers
+    (λ c. search needs) loop-less loop-again (λ c. search needs) same-length returns same-length-2 returns-2)

@@ -14,30 +14,6 @@ said : (c : tie.After-step) {x : Step} → c .step .result ≡ x
     → meansStep x ≡ stepping Unsigned (c .before .before .args .block .now) (c .before .before .args .at)
 said c e = ap meansStep (sym e) ∙ c .step .ensures .is
 
-step-requires : tie.Need-step-requires
-step-requires c κs = search needs
-
-enum-known-value : tie.Need-enum-known-value
-enum-known-value c = search needs
-
-enum-known-value-2 : tie.Need-enum-known-value-2
-enum-known-value-2 c = search needs
-
-enum-told : tie.Need-enum-told
-enum-told c = search needs
-
-enum-known-refusal : tie.Need-enum-known-refusal
-enum-known-refusal c = search needs
-
-enum-told-2 : tie.Need-enum-told-2
-enum-told-2 c = search needs
-
-enum-told-3 : tie.Need-enum-told-3
-enum-told-3 c = search needs
-
-enum-known-refusal-2 : tie.Need-enum-known-refusal-2
-enum-known-refusal-2 c = search needs
-
 returns : tie.Need-returns
 returns c =
     let s = c .before .before .before .before .before .before .before in
@@ -71,18 +47,6 @@ returns-6 c =
 pub pass-spec : {M : Type 1} → statement M
 pass-spec =
     tie.close
-    (tie.spec
-    step-requires
-    enum-known-value
-    enum-known-value-2
-    enum-told
-    enum-known-refusal
-    enum-told-2
-    enum-told-3
-    enum-known-refusal-2
-    returns
-    returns-2
-    returns-3
-    returns-4
-    returns-5
+    (tie.spec (λ c κs. search needs) (λ c. search needs) (λ c. search needs) (λ c. search needs) (λ c. search needs)
+    (λ c. search needs) (λ c. search needs) (λ c. search needs) returns returns-2 returns-3 returns-4 returns-5
     returns-6)

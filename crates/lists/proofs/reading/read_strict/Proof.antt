@@ -15,12 +15,6 @@ told c e = ap meansScanned (sym e) ∙ c .scan .ensures .is
 returns : tie.Need-returns
 returns c = block-too-long _ _ (c .if1 .taken)
 
-scan-requires : tie.Need-scan-requires
-scan-requires c κs = search needs
-
-enum-known-count : tie.Need-enum-known-count
-enum-known-count c = search needs
-
 returns-2 : tie.Need-returns-2
 returns-2 c = slice-full _ _ (search needs) (told (c .before .before .before .before) (c .before .before .count .given .1)) (c .if2 .taken)
 
@@ -28,28 +22,11 @@ fill-requires : tie.Need-fill-requires
 fill-requires c κs =
     slice-fits _ (search needs) (told (c .before .before .before .before .before) (c .before .before .before .count .given .1)) (c .before .if2 .left)
 
-enum-known-refusal : tie.Need-enum-known-refusal
-enum-known-refusal c = search needs
-
-same-length : tie.Need-same-length
-same-length c = search needs
-
-returns-3 : tie.Need-returns-3
-returns-3 c = search needs
-
 returns-4 : tie.Need-returns-4
 returns-4 c = block-faulty _ _ (search needs) (told (c .before .before .before) (c .before .refusal .given .1))
 
 pub read-strict-spec : {M : Type 1} → statement M
 read-strict-spec =
     tie.close
-    (tie.spec
-    returns
-    scan-requires
-    enum-known-count
-    returns-2
-    fill-requires
-    enum-known-refusal
-    same-length
-    returns-3
-    returns-4)
+    (tie.spec returns (λ c κs. search needs) (λ c. search needs) returns-2 fill-requires (λ c. search needs)
+    (λ c. search needs) (λ c. search needs) returns-4)

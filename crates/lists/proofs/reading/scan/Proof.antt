@@ -26,20 +26,11 @@ loop-holds c = none-counted _ (c .before .pre)
 pass-requires : tie.Need-pass-requires Inv-loop μ-loop
 pass-requires c κs = start-here _ (c .before .loop .inv) (c .loop-test .taken)
 
-enum-known-behind : tie.Need-enum-known-behind Inv-loop μ-loop
-enum-known-behind c = search needs
-
-add-count : tie.Need-add-count Inv-loop μ-loop
-add-count c = search needs
-
 loop-less : tie.Need-loop-less Inv-loop μ-loop
 loop-less c = omega (arith, passed c .further, passed c .start .here)
 
 loop-again : tie.Need-loop-again Inv-loop μ-loop
 loop-again c = one-counted _ (c .before .before .before .before .before .loop .inv) (passed c)
-
-enum-known-refusal : tie.Need-enum-known-refusal Inv-loop μ-loop
-enum-known-refusal c = search needs
 
 returns : tie.Need-returns Inv-loop μ-loop
 returns c =
@@ -52,15 +43,5 @@ returns-2 c = record { is = all-counted _ (c .before .loop .inv) (c .loop-test .
 pub scan-spec : {M : Type 1} → statement M
 scan-spec =
     tie.close
-    (tie.spec
-    Inv-loop
-    μ-loop
-    loop-holds
-    pass-requires
-    enum-known-behind
-    add-count
-    loop-less
-    loop-again
-    enum-known-refusal
-    returns
-    returns-2)
+    (tie.spec Inv-loop μ-loop loop-holds pass-requires (λ c. search needs) (λ c. search needs) loop-less loop-again
+    (λ c. search needs) returns returns-2)

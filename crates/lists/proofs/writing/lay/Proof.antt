@@ -41,32 +41,11 @@ again c =
 loop-holds : tie.Need-loop-holds Inv-loop μ-loop
 loop-holds c = none-of-list _ _ _ (c .before .before .pre)
 
-mul-v : tie.Need-mul-v Inv-loop μ-loop
-mul-v c = search needs
-
-shared-slice-read-v : tie.Need-shared-slice-read-v Inv-loop μ-loop
-shared-slice-read-v c = search needs
-
-write-u64-requires : tie.Need-write-u64-requires Inv-loop μ-loop
-write-u64-requires c κs = search needs
-
-enum-known-count : tie.Need-enum-known-count Inv-loop μ-loop
-enum-known-count c = search needs
-
 add-to : tie.Need-add-to Inv-loop μ-loop
 add-to c = omega (arith, again c .ends, entry (wrote c) .pre)
 
-add-i : tie.Need-add-i Inv-loop μ-loop
-add-i c = search needs
-
-loop-less : tie.Need-loop-less Inv-loop μ-loop
-loop-less c = search needs
-
 loop-again : tie.Need-loop-again Inv-loop μ-loop
 loop-again c = again c
-
-enum-known-refusal : tie.Need-enum-known-refusal Inv-loop μ-loop
-enum-known-refusal c = search needs
 
 same-length : tie.Need-same-length Inv-loop μ-loop
 same-length c =
@@ -78,33 +57,12 @@ returns c =
     let w = c .before .before .before .before .before in
     never-refused (there w) (w .write-u64 .ensures) (c .before .refusal .given .1)
 
-sub-total : tie.Need-sub-total Inv-loop μ-loop
-sub-total c = search needs
-
-same-length-2 : tie.Need-same-length-2 Inv-loop μ-loop
-same-length-2 c = search needs
-
 returns-2 : tie.Need-returns-2 Inv-loop μ-loop
 returns-2 c = all-of-list _ _ _ (c .before .before .before .before .pre) (c .before .loop .inv) (c .loop-test .left) _ refl
 
 pub lay-spec : {M : Type 1} → statement M
 lay-spec =
     tie.close
-    (tie.spec
-    Inv-loop
-    μ-loop
-    loop-holds
-    mul-v
-    shared-slice-read-v
-    write-u64-requires
-    enum-known-count
-    add-to
-    add-i
-    loop-less
-    loop-again
-    enum-known-refusal
-    same-length
-    returns
-    sub-total
-    same-length-2
-    returns-2)
+    (tie.spec Inv-loop μ-loop loop-holds (λ c. search needs) (λ c. search needs) (λ c κs. search needs)
+    (λ c. search needs) add-to (λ c. search needs) (λ c. search needs) loop-again (λ c. search needs) same-length
+    returns (λ c. search needs) (λ c. search needs) returns-2)

@@ -24,23 +24,8 @@ added c =
 loop-holds : tie.Need-loop-holds Inv-loop μ-loop
 loop-holds c = none-added _
 
-mul-v : tie.Need-mul-v Inv-loop μ-loop
-mul-v c = search needs
-
-shared-slice-read-v : tie.Need-shared-slice-read-v Inv-loop μ-loop
-shared-slice-read-v c = search needs
-
-length-u64-requires : tie.Need-length-u64-requires Inv-loop μ-loop
-length-u64-requires c κs = search needs
-
 add-total : tie.Need-add-total Inv-loop μ-loop
 add-total c = omega (arith, added c .few, added c .within, c .before .before .before .before .before .pre)
-
-add-i : tie.Need-add-i Inv-loop μ-loop
-add-i c = search needs
-
-loop-less : tie.Need-loop-less Inv-loop μ-loop
-loop-less c = search needs
 
 loop-again : tie.Need-loop-again Inv-loop μ-loop
 loop-again c = added c
@@ -51,15 +36,5 @@ returns c = record { is = all-added _ (c .before .loop .inv) (c .loop-test .left
 pub total-length-spec : {M : Type 1} → statement M
 total-length-spec =
     tie.close
-    (tie.spec
-    Inv-loop
-    μ-loop
-    loop-holds
-    mul-v
-    shared-slice-read-v
-    length-u64-requires
-    add-total
-    add-i
-    loop-less
-    loop-again
-    returns)
+    (tie.spec Inv-loop μ-loop loop-holds (λ c. search needs) (λ c. search needs) (λ c κs. search needs) add-total
+    (λ c. search needs) (λ c. search needs) loop-again returns)

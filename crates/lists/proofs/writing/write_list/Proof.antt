@@ -10,12 +10,6 @@ use Rattle.lists.proofs.writing.write_list.Tie as tie
 returns : tie.Need-returns
 returns c = list-too-long _ _ _ (c .if1 .taken)
 
-total-length-requires : tie.Need-total-length-requires
-total-length-requires c κs = search needs
-
-has-room-requires : tie.Need-has-room-requires
-has-room-requires c κs = search needs
-
 returns-2 : tie.Need-returns-2
 returns-2 c =
     list-laid _ _ _ (search needs) (room-refused _ _ _ (c .before .has-room .ensures) (c .before .before .total-length .ensures .is) (not-true _ (c .if2 .taken)))
@@ -23,20 +17,10 @@ returns-2 c =
 lay-requires : tie.Need-lay-requires
 lay-requires c κs = omega (arith, c .before .before .before .total-length .ensures .is, room-there (c .before .before .has-room .ensures) (not-false _ (c .before .if2 .left)))
 
-same-length : tie.Need-same-length
-same-length c = search needs
-
 returns-3 : tie.Need-returns-3
 returns-3 c = list-laid _ _ _ (search needs) (c .before .before .lay .ensures)
 
 pub write-list-spec : {M : Type 1} → statement M
 write-list-spec =
     tie.close
-    (tie.spec
-    returns
-    total-length-requires
-    has-room-requires
-    returns-2
-    lay-requires
-    same-length
-    returns-3)
+    (tie.spec returns (λ c κs. search needs) (λ c κs. search needs) returns-2 lay-requires (λ c. search needs) returns-3)

@@ -15,9 +15,6 @@ low c = low-fits (c .args .below) _ _ _ _ (c .pre)
 whole : (c : tie.Else2) → c .before .before .args .low + c .before .before .args .weight * c .before .before .args .bits < 2 ^ 63
 whole c = closing-fits (c .before .before .args .below) _ _ _ _ (c .before .before .pre) (λ h. absurd (omega arith))
 
-add-n : tie.Need-add-n
-add-n c = search needs
-
 returns : tie.Need-returns
 returns c = due-kept (closing-large _ _ _ _ _ (c .before .if1 .taken) (c .if2 .taken))
 
@@ -54,16 +51,5 @@ returns-5 c = rw (word-back _ (c .signed3 .ok), c .signed3 .ensures) (due-kept (
 pub closed-spec : {M : Type 1} → statement M
 closed-spec =
     tie.close
-    (tie.spec
-    add-n
-    returns
-    mul-part
-    add-m
-    signed-requires
-    returns-2
-    signed-requires-2
-    returns-3
-    mul-twice
-    returns-4
-    signed-requires-3
-    returns-5)
+    (tie.spec (λ c. search needs) returns mul-part add-m signed-requires returns-2 signed-requires-2 returns-3 mul-twice
+    returns-4 signed-requires-3 returns-5)

@@ -19,21 +19,6 @@ closing : (c : tie.After-sum)
     (c .sum .given .0 .1 .1 .0) (c .sum .given .0 .1 .1 .1 .0)
 closing c = walk-tells _ _ (c .before .before .walk .ensures) (c .sum .given .1)
 
-walk-requires : tie.Need-walk-requires
-walk-requires c κs = search needs
-
-enum-told : tie.Need-enum-told
-enum-told c = search needs
-
-enum-told-2 : tie.Need-enum-told-2
-enum-told-2 c = search needs
-
-enum-told-3 : tie.Need-enum-told-3
-enum-told-3 c = search needs
-
-enum-known-sum : tie.Need-enum-known-sum
-enum-known-sum c = search needs
-
 closed-requires : tie.Need-closed-requires
 closed-requires c κs = closes-above (closing (c .before .before)) (c .if1 .taken)
 
@@ -71,19 +56,5 @@ returns-5 c = due-passed (reads-below (closing (c .before .before .before)) (c .
 pub read-i64-spec : {M : Type 1} → statement M
 read-i64-spec =
     tie.close
-    (tie.spec
-    walk-requires
-    enum-told
-    enum-told-2
-    enum-told-3
-    enum-known-sum
-    closed-requires
-    returns
-    sub-up
-    sub-low
-    sub-bits
-    closed-requires-2
-    returns-2
-    returns-3
-    returns-4
-    returns-5)
+    (tie.spec (λ c κs. search needs) (λ c. search needs) (λ c. search needs) (λ c. search needs) (λ c. search needs)
+    closed-requires returns sub-up sub-low sub-bits closed-requires-2 returns-2 returns-3 returns-4 returns-5)

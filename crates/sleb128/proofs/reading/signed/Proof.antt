@@ -4,9 +4,6 @@ use Rattle.sleb128.proofs.Bits.{complement, above}
 use Rattle.sleb128.proofs.reading.signed.Statement.{statement}
 use Rattle.sleb128.proofs.reading.signed.Tie as tie
 
-cast-v : tie.Need-cast-v
-cast-v c = search needs
-
 returns : tie.Need-returns
 returns c = rw (c .if1 .taken) (complement _ (c .before .pre))
 
@@ -14,4 +11,4 @@ returns-2 : tie.Need-returns-2
 returns-2 c = rw (c .if1 .left) (above _ (c .before .pre))
 
 pub signed-spec : {M : Type 1} → statement M
-signed-spec = tie.close (tie.spec cast-v returns returns-2)
+signed-spec = tie.close (tie.spec (λ c. search needs) returns returns-2)

@@ -11,14 +11,8 @@ use Rattle.sleb128.proofs.Forms.{form-length}
 use Rattle.sleb128.proofs.writing.length_i64.Statement.{statement}
 use Rattle.sleb128.proofs.writing.length_i64.Tie as tie
 
-magnitude-requires : tie.Need-magnitude-requires
-magnitude-requires c κs = search needs
-
 mul-twice : tie.Need-mul-twice
 mul-twice c = omega (arith, c .magnitude .ensures ∙ ap mag (word-back (c .before .args .v) (c .before .fits .v .sfits)), c .before .fits .v .sfits)
-
-length-u64-requires : tie.Need-length-u64-requires
-length-u64-requires c κs = search needs
 
 returns : tie.Need-returns
 returns c =
@@ -26,4 +20,4 @@ returns c =
     record { is = c .length-u64 .ensures .is ∙ ap (λ (x : ℕ). length (unsigned-form (x * 2))) m ∙ sym (form-length _) }
 
 pub length-i64-spec : {M : Type 1} → statement M
-length-i64-spec = tie.close (tie.spec magnitude-requires mul-twice length-u64-requires returns)
+length-i64-spec = tie.close (tie.spec (λ c κs. search needs) mul-twice (λ c κs. search needs) returns)

@@ -10,21 +10,6 @@ use Rattle.sleb128.proofs.Forms.{form-laid}
 use Rattle.sleb128.proofs.writing.write_i64.Statement.{statement}
 use Rattle.sleb128.proofs.writing.write_i64.Tie as tie
 
-magnitude-requires : tie.Need-magnitude-requires
-magnitude-requires c κs = search needs
-
-below-zero-requires : tie.Need-below-zero-requires
-below-zero-requires c κs = search needs
-
-length-i64-requires : tie.Need-length-i64-requires
-length-i64-requires c κs = search needs
-
-store-requires : tie.Need-store-requires
-store-requires c κs = search needs
-
-same-length : tie.Need-same-length
-same-length c = search needs
-
 returns : tie.Need-returns
 returns c =
     let start = c .before .before .before .before .before .before .before .before in
@@ -36,10 +21,5 @@ returns c =
 pub write-i64-spec : {M : Type 1} → statement M
 write-i64-spec =
     tie.close
-    (tie.spec
-    magnitude-requires
-    below-zero-requires
-    length-i64-requires
-    store-requires
-    same-length
-    returns)
+    (tie.spec (λ c κs. search needs) (λ c κs. search needs) (λ c κs. search needs) (λ c κs. search needs)
+    (λ c. search needs) returns)

@@ -24,25 +24,10 @@ fits : (c : tie.After-sum) → c .sum .given .0 .1 .1 .0 < start c .args .most
     → (c .sum .given .0 .0 + c .sum .given .0 .1 .0 * c .sum .given .0 .1 .1 .1 .0 < 2 ^ 64) × (c .sum .given .0 .1 .1 .0 < 10)
 fits c m l = (number-fits _ _ (start c .pre) _ _ (closing c) m l, closing c .few)
 
-walk-requires : tie.Need-walk-requires
-walk-requires c κs = search needs
-
-enum-told : tie.Need-enum-told
-enum-told c = search needs
-
-enum-known-high : tie.Need-enum-known-high
-enum-known-high c = search needs
-
 returns : tie.Need-returns
 returns c =
     says-end _ _ (search needs) _ _
     (walk-tells _ _ (c .before .before .before .before .walk .ensures) (c .before .before .high .given .1)) (c .if1 .taken)
-
-enum-told-2 : tie.Need-enum-told-2
-enum-told-2 c = search needs
-
-enum-known-sum : tie.Need-enum-known-sum
-enum-known-sum c = search needs
 
 returns-2 : tie.Need-returns-2
 returns-2 c =
@@ -61,9 +46,6 @@ returns-3 c =
 returns-4 : tie.Need-returns-4
 returns-4 c =
     says-many _ _ (search needs) _ _ (closing (c .before .before .before .before)) (search needs) (search needs) (c .if4 .taken)
-
-add-n : tie.Need-add-n
-add-n c = search needs
 
 number-requires-2 : tie.Need-number-requires-2
 number-requires-2 c κs =
@@ -103,23 +85,6 @@ returns-10 c =
 pub read-width-spec : {M : Type 1} → statement M
 read-width-spec =
     tie.close
-    (tie.spec
-    walk-requires
-    enum-told
-    enum-known-high
-    returns
-    enum-told-2
-    enum-known-sum
-    returns-2
-    number-requires
-    returns-3
-    returns-4
-    add-n
-    number-requires-2
-    returns-5
-    returns-6
-    number-requires-3
-    returns-7
-    returns-8
-    returns-9
-    returns-10)
+    (tie.spec (λ c κs. search needs) (λ c. search needs) (λ c. search needs) returns (λ c. search needs)
+    (λ c. search needs) returns-2 number-requires returns-3 returns-4 (λ c. search needs) number-requires-2 returns-5
+    returns-6 number-requires-3 returns-7 returns-8 returns-9 returns-10)

@@ -18,20 +18,8 @@ abbrev μ-loop : tie.MeasureT-loop
 loop-holds : tie.Need-loop-holds Inv-loop μ-loop
 loop-holds c = form-some _
 
-mul-growth : tie.Need-mul-growth Inv-loop μ-loop
-mul-growth c = search needs
-
-array-read-growth : tie.Need-array-read-growth Inv-loop μ-loop
-array-read-growth c = search needs
-
-add-n : tie.Need-add-n Inv-loop μ-loop
-add-n c = search needs
-
 returns : tie.Need-returns Inv-loop μ-loop
 returns c = length-found _ _ (search needs) (c .before .before .loop .inv) (c .if1 .taken)
-
-loop-less : tie.Need-loop-less Inv-loop μ-loop
-loop-less c = search needs
 
 loop-again : tie.Need-loop-again Inv-loop μ-loop
 loop-again c = growth-passed _ _ (search needs) (c .if1 .left)
@@ -42,14 +30,5 @@ returns-2 c = longest-length _ (search needs) (omega arith)
 pub length-u64-spec : {M : Type 1} → statement M
 length-u64-spec =
     tie.close
-    (tie.spec
-    Inv-loop
-    μ-loop
-    loop-holds
-    mul-growth
-    array-read-growth
-    add-n
-    returns
-    loop-less
-    loop-again
-    returns-2)
+    (tie.spec Inv-loop μ-loop loop-holds (λ c. search needs) (λ c. search needs) (λ c. search needs) returns
+    (λ c. search needs) loop-again returns-2)

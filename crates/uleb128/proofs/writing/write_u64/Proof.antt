@@ -6,17 +6,8 @@ use Rattle.uleb128.proofs.Forms.{form-spelled}
 use Rattle.uleb128.proofs.writing.write_u64.Statement.{statement}
 use Rattle.uleb128.proofs.writing.write_u64.Tie as tie
 
-length-u64-requires : tie.Need-length-u64-requires
-length-u64-requires c κs = search needs
-
-store-requires : tie.Need-store-requires
-store-requires c κs = search needs
-
-same-length : tie.Need-same-length
-same-length c = search needs
-
 returns : tie.Need-returns
 returns c = spelled-laid (omega arith) (form-spelled _) (c .before .before .before .before .length-u64 .ensures .is) (c .before .before .store .ensures)
 
 pub write-u64-spec : {M : Type 1} → statement M
-write-u64-spec = tie.close (tie.spec length-u64-requires store-requires same-length returns)
+write-u64-spec = tie.close (tie.spec (λ c κs. search needs) (λ c κs. search needs) (λ c. search needs) returns)

@@ -6,14 +6,8 @@ use Rattle.uleb128_rec.proofs.ByteInFront.{joins-room, ahead-zero, ahea
 use Rattle.uleb128_rec.proofs.reading.behind.Statement.{statement}
 use Rattle.uleb128_rec.proofs.reading.behind.Tie as tie
 
-enum-known-read : tie.Need-enum-known-read
-enum-known-read c = search needs
-
 returns : tie.Need-returns
 returns c = due-kept (ahead-zero _ (c .before .before .read .given .1) (c .if1 .taken))
-
-cast-low : tie.Need-cast-low
-cast-low c = search needs
 
 mul-up : tie.Need-mul-up
 mul-up c = omega (arith, joins-room (c .before .before .before .before .args .b) (c .before .before .read .given .1) (c .before .before .before .before .pre))
@@ -24,9 +18,6 @@ add-whole c = omega (arith, joins-room (c .before .before .before .before .args 
 add-n : tie.Need-add-n
 add-n c = omega (arith, joins-room (c .before .before .before .before .args .b) (c .before .before .read .given .1) (c .before .before .before .before .pre))
 
-enum-known-read-2 : tie.Need-enum-known-read-2
-enum-known-read-2 c = search needs
-
 returns-2 : tie.Need-returns-2
 returns-2 c = due-kept (ahead-number _ (c .before .before .read .given .1) (c .if1 .left))
 
@@ -36,13 +27,5 @@ returns-3 c = due-kept (ahead-case _ (c .before .read2 .given .1))
 pub behind-spec : {M : Type 1} → statement M
 behind-spec =
     tie.close
-    (tie.spec
-    enum-known-read
-    returns
-    cast-low
-    mul-up
-    add-whole
-    add-n
-    enum-known-read-2
-    returns-2
+    (tie.spec (λ c. search needs) returns (λ c. search needs) mul-up add-whole add-n (λ c. search needs) returns-2
     returns-3)

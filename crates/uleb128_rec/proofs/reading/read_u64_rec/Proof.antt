@@ -8,11 +8,5 @@ use Rattle.uleb128_rec.proofs.reading.read_u64_rec.Tie as tie
 returns : tie.Need-returns
 returns c = due-kept (read-past u64 _ _ (c .if1 .taken))
 
-read-rest-requires : tie.Need-read-rest-requires
-read-rest-requires c κs = search needs
-
-returns-2 : tie.Need-returns-2
-returns-2 c = search needs
-
 pub read-u64-rec-spec : {M : Type 1} → statement M
-read-u64-rec-spec = tie.close (tie.spec returns read-rest-requires returns-2)
+read-u64-rec-spec = tie.close (tie.spec returns (λ c κs. search needs) (λ c. search needs))

@@ -7,12 +7,6 @@ use Rattle.uleb128_rec.proofs.BytesStored.{all-written}
 use Rattle.uleb128_rec.proofs.writing.write_u64_rec.Statement.{statement}
 use Rattle.uleb128_rec.proofs.writing.write_u64_rec.Tie as tie
 
-length-u64-requires : tie.Need-length-u64-requires
-length-u64-requires c κs = search needs
-
-has-room-requires : tie.Need-has-room-requires
-has-room-requires c κs = search needs
-
 returns : tie.Need-returns
 returns c = room-refused _ _ _ (c .before .has-room .ensures) (c .before .before .length-u64 .ensures .is) (not-true _ (c .if1 .taken))
 
@@ -20,9 +14,6 @@ write-rest-requires : tie.Need-write-rest-requires
 write-rest-requires c κs =
     let room = room-there (c .before .before .has-room .ensures) (not-false _ (c .before .if1 .left)) in
     record { few = omega arith; room = omega arith }
-
-same-length : tie.Need-same-length
-same-length c = search needs
 
 returns-2 : tie.Need-returns-2
 returns-2 c =
@@ -32,10 +23,4 @@ returns-2 c =
 pub write-u64-rec-spec : {M : Type 1} → statement M
 write-u64-rec-spec =
     tie.close
-    (tie.spec
-    length-u64-requires
-    has-room-requires
-    returns
-    write-rest-requires
-    same-length
-    returns-2)
+    (tie.spec (λ c κs. search needs) (λ c κs. search needs) returns write-rest-requires (λ c. search needs) returns-2)
