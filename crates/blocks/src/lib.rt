@@ -95,30 +95,18 @@ fn past(at: usize, count: usize) -> Cursor
 }
 
 // What a reader of numbers says at the place, by the rule.
-fn unsigned_reading(block: &[u8], at: usize) -> Reading
-    ensures { λ r. ⌜ ReadsBy Rule.Unsigned (now (block .entry)) at r ⌝ }
-{
-    match read_u64(block, Place(at)) {
-        ReadU64::Number(v, _) => Reading::Number(Value::Unsigned(v)),
-        ReadU64::Refused(refusal) => Reading::Fault(refusal),
-    }
-}
-
-fn signed_reading(block: &[u8], at: usize) -> Reading
-    ensures { λ r. ⌜ ReadsBy Rule.Signed (now (block .entry)) at r ⌝ }
-{
-    match read_i64(block, Place(at)) {
-        ReadI64::Number(v, _) => Reading::Number(Value::Signed(v)),
-        ReadI64::Refused(refusal) => Reading::Fault(refusal),
-    }
-}
-
 fn read_by(rule: Rule, block: &[u8], at: usize) -> Reading
     ensures { λ r. ⌜ ReadsBy rule (now (block .entry)) at r ⌝ }
 {
     match rule {
-        Rule::Unsigned => unsigned_reading(block, at),
-        Rule::Signed => signed_reading(block, at),
+        Rule::Unsigned => match read_u64(block, Place(at)) {
+            ReadU64::Number(v, _) => Reading::Number(Value::Unsigned(v)),
+            ReadU64::Refused(refusal) => Reading::Fault(refusal),
+        },
+        Rule::Signed => match read_i64(block, Place(at)) {
+            ReadI64::Number(v, _) => Reading::Number(Value::Signed(v)),
+            ReadI64::Refused(refusal) => Reading::Fault(refusal),
+        },
     }
 }
 

@@ -4,6 +4,7 @@
 --   numbers     the chapter
 use Prim.Native.Nat.{ℕ, _-_, _^_, _<_}
 use mathlib.Core.Path.{_≡_, refl, ap, sym, _∙_}
+use mathlib.Core.Bool.{false}
 use mathlib.Core.List.{List, [], _∷_}
 use native.Mathlib.Nat.{lt-trans}
 use native.Mathlib.Omega.{arith}
@@ -110,6 +111,7 @@ numbers = record {
     number = λ why. (numberOf why, record { is = refl });
     room = λ size at n. (fits size at n, record { is = refl });
     walk = λ s at. (walked s at, record { is = refl });
+    spelled = λ v. (record { 0 = length (spell false 128 v) }, record { is = refl });
     store = λ m below n s at. some-lays (groups below n m) s at;
     reply = some-reply;
     written = some-written;
@@ -119,6 +121,7 @@ numbers = record {
     number = λ why n m p q. p .is ∙ sym (q .is);
     room = λ size at n r r′ p q. p .is ∙ sym (q .is);
     walk = λ s at r r′ p q. p .is ∙ sym (q .is);
+    spelled = λ v n m p q. ap (λ (x : ℕ). record { 0 = x }) (p .is ∙ sym (q .is));
     store = λ m below n s at r r′ out out′ p q. same-lays p q;
     reply = λ k. one-reply k;
     written = λ k v s at r r′ out out′ p q. same-lays (lays-form k v p) (lays-form k v q);

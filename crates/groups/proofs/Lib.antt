@@ -3,6 +3,7 @@ pub mod Rows
 pub mod WalkLoop
 pub mod FromWalk
 pub mod Spelling
+pub mod Lookup
 pub mod Exact
 pub mod Stands
 pub mod StoreLoop

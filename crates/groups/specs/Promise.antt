@@ -4,18 +4,20 @@
 --                                 high ones closed by one below 128, with what the high ones sum to and what the closing one weighs
 --   walking l                     the same of all the bytes l
 --   Walks s at r                  walking them answers r
+--   SpelledLength v r             so many bytes spell v, unsigned
 --   Stores m below n s at r out   n bytes that spell m are laid down at this place of s, or none
 use Prim.Native.Nat.{ℕ, _^_}
 use mathlib.Core.List.{List}
 use mathlib.Core.Path.{_≡_}
-use mathlib.Core.Bool.{Bool}
+use mathlib.Core.Bool.{Bool, false}
 use lib.Dec.{leb, ltb, eqb}
 use lib.ListN.{length, getD, take, drop}
 use Rattle.words.specs.Answer.{pick}
-use Rattle.words.specs.Lays.{Lays}
+use Rattle.words.specs.Lays.{Lays, Takes}
+use Rattle.words.specs.declared.Count.{Count}
 use Rattle.words.specs.declared.Written.{Written}
 use Rattle.groups.specs.Group.{run, digits}
-use Rattle.groups.specs.Form.{groups}
+use Rattle.groups.specs.Form.{groups, spell}
 use Rattle.groups.specs.declared.Walked.{Walked}
 use Rattle.groups.specs.declared.Walked.the-variants.{Past, Open, Long, Closed}
 
@@ -30,6 +32,9 @@ walked s at = pick (ltb (length s) at) Past (walking (drop at s))
 
 pub record Walks (s : List ℕ) (at : ℕ) (r : Walked) : Type 0 where
   pub is : r ≡ walked s at
+
+abbrev pub SpelledLength : ℕ → Count → Type 0
+SpelledLength v r = Takes (spell false 128 v) r
 
 abbrev pub Stores : ℕ → Bool → ℕ → List ℕ → ℕ → Written → List ℕ → Type 0
 Stores m below n s at r out = Lays (groups below n m) s at r out

@@ -4,6 +4,7 @@ mod reading;
 mod writing;
 
 pub use reading::walk;
+pub use writing::spelled_length;
 pub use writing::store;
 
 // How the bytes from a start go.

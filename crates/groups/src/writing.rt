@@ -1,4 +1,5 @@
-// The loop of the source's `serialize`, for every width, with the room known before the first byte is stored.
+// How many bytes spell a number, looked up; and the loop of the source's `serialize`, for every width, with the room known before the first
+// byte is stored.
 use words::Count;
 use words::Place;
 use words::Refusal;
@@ -7,7 +8,36 @@ use words::has_room;
 ghost use mathlib.Core.Path.{_≡_};
 ghost use Prim.Native.Nat.{_<_};
 ghost use Rattle.groups.specs.Form.{say};
-ghost use Rattle.groups.specs.Promise.{Stores};
+ghost use Rattle.groups.specs.Promise.{SpelledLength, Stores};
+
+// The values at which a 64-bit number grows by a byte.
+const GROWTH: [u64; 9] = [
+    128,
+    16384,
+    2097152,
+    268435456,
+    34359738368,
+    4398046511104,
+    562949953421312,
+    72057594037927936,
+    9223372036854775808,
+];
+
+// How many bytes spell the number, unsigned: 1 to 10, looked up.
+pub fn spelled_length(v: u64) -> Count
+    ensures { λ r. ⌜ SpelledLength v r ⌝ }
+{
+    let mut i = 0;
+    while i < 9 {
+        let growth = GROWTH[i];
+        let n = i + 1;
+        if v < growth {
+            return Count(n);
+        }
+        i = n;
+    }
+    Count(10)
+}
 
 // Seven bits as they are, or below zero their complement.
 fn said(bits: u8, below: bool) -> u8

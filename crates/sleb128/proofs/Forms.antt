@@ -1,12 +1,12 @@
 -- The signed form: how it is spelled, how long it is, and when it is laid down.
 --
 --   form-spelled   the form spells the magnitude of its number, at its sign
---   form-length    it is as long as the unsigned form of twice the magnitude
+--   form-length    it is as long as the unsigned spelling of twice the magnitude
 --   form-laid      where as many bytes as it has, that spell the same, are laid down, it is
 use Prim.Native.Nat.{ℕ, _-_, _*_, _^_, _≤_, _<_}
 use mathlib.Core.Path.{_≡_}
 use mathlib.Core.List.{List}
-use mathlib.Core.Bool.{Bool}
+use mathlib.Core.Bool.{Bool, false}
 use native.Mathlib.Omega.{arith}
 use native.Mathlib.Nat.{le-antisymm}
 use lib.IntN.{ℤ}
@@ -14,10 +14,8 @@ use lib.Signed.{mag}
 use lib.ListN.{length}
 use Rattle.words.specs.Lays.{Lays}
 use Rattle.words.specs.declared.Written.{Written}
-use Rattle.groups.specs.Form.{groups}
+use Rattle.groups.specs.Form.{groups, spell}
 use Rattle.groups.proofs.Spelling.{Spelled, spelled, spelled-laid, some-bytes, spelled-short, short-small}
-use Rattle.uleb128.specs.Unsigned.{form as unsigned-form}
-use Rattle.uleb128.proofs.Forms.{form-spelled as unsigned-spelled}
 use Rattle.sleb128.specs.Signed.{below, form}
 
 pub form-spelled : (v : ℤ) → Spelled (below v) 64 (mag v) (form v)
@@ -31,10 +29,10 @@ no-longer {h = h} la lb p q f =
     let k = length h - 1 in
     omega (arith, some-bytes q, spelled-short la k p (f (128 ^ k) (short-small lb k q (omega (arith, some-bytes q)))))
 
-pub form-length : (v : ℤ) → length (form v) ≡ length (unsigned-form (mag v * 2))
+pub form-length : (v : ℤ) → length (form v) ≡ length (spell false 128 (mag v * 2))
 form-length v =
     let p = form-spelled v in
-    let q = unsigned-spelled (mag v * 2) in
+    let q = spelled false 128 (omega arith) (mag v * 2) in
     le-antisymm (no-longer (omega arith) (omega arith) p q (λ x h. omega arith)) (no-longer (omega arith) (omega arith) q p (λ x h. omega arith))
 
 pub form-laid : (v : ℤ) {b : Bool} {m n at : ℕ} {s out : List ℕ} {r : Written} → b ≡ below v → m ≡ mag v → n ≡ length (form v)

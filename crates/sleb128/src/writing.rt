@@ -1,7 +1,7 @@
 // Writing a signed number. With m for v, or for -v-1 below zero, the seven bits of each byte are those of m, or below zero 127 less
 // those of m. The form ends where what is left of m is below 64, so that the last byte's bit of weight 64 tells the sign.
+use groups::spelled_length;
 use groups::store;
-use uleb128::length_u64;
 use words::Count;
 use words::Place;
 use words::Written;
@@ -29,7 +29,7 @@ pub fn length_i64(v: i64) -> Count
 {
     let m = magnitude(v);
     let twice = m * 2;
-    length_u64(twice)
+    spelled_length(twice)
 }
 
 // Lays the number's form down at the place and answers its count of bytes; else 5, and no byte is changed.

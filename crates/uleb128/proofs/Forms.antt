@@ -3,21 +3,20 @@
 --   form-spelled             the form spells its number
 --   form-small, form-large   one byte v below 128; else (v mod 128) + 128, and then the form of v div 128
 --   form-some                a form has some byte
---   form-short, form-long    a form has at most k + 1 bytes exactly where its number is below 128 to the k + 1
-use Prim.Native.Nat.{ℕ, _+_, _*_, _/_, _%_, _^_, _≤_, _<_}
+--   form-short               a form has at most k + 1 bytes where its number is below 128 to the k + 1
+--   form-takes               what is promised of its spelling's length is promised of its own
+use Prim.Native.Nat.{ℕ, _+_, _/_, _%_, _^_, _≤_, _<_}
 use mathlib.Core.Path.{_≡_}
 use mathlib.Core.List.{[], _∷_}
 use mathlib.Core.Bool.{false}
-use native.Mathlib.Nat.{pow-succ'}
-use native.Mathlib.Numerals.{add-one}
 use native.Mathlib.Omega.{arith}
 use lib.ListN.{length}
-use Rattle.words.proofs.Cases.{by-order}
-use Rattle.groups.proofs.Spelling.{Spelled, last, byte, spelled, some-bytes, spelled-unique, spelled-short, short-small}
+use Rattle.words.specs.declared.Count.{Count}
+use Rattle.groups.specs.Promise.{SpelledLength}
+use Rattle.groups.proofs.Spelling.{Spelled, last, byte, spelled, some-bytes, spelled-unique}
+use Rattle.groups.proofs.Lookup.{unsigned-short}
 use Rattle.uleb128.specs.Unsigned.{form}
-
-pow-more : (k : ℕ) → 128 ^ (k + 1) ≡ 128 * 128 ^ k
-pow-more k = rw add-one (pow-succ' 128 k)
+use Rattle.uleb128.specs.Promise.{LengthU64}
 
 pub form-spelled : (v : ℕ) → Spelled false 128 v (form v)
 unfolding form
@@ -32,11 +31,10 @@ form-large v h = spelled-unique (form-spelled v) (byte h (form-spelled (v / 128)
 pub form-some : (v : ℕ) → 0 < length (form v)
 form-some v = some-bytes (form-spelled v)
 
--- k + 1 bytes are enough exactly below 128 to the k + 1
 pub form-short : (v k : ℕ) → v < 128 ^ (k + 1) → length (form v) ≤ k + 1
-form-short v k h = omega (arith, spelled-short (omega arith) k (form-spelled v) (omega (arith, pow-more k)))
+unfolding form
+form-short v k h = unsigned-short v k h
 
-pub form-long : (v k : ℕ) → 128 ^ (k + 1) ≤ v → k + 1 < length (form v)
-form-long v k h =
-    by-order (k + 1) (length (form v)) (λ l. l)
-    (λ l. absurd (omega (arith, short-small (omega arith) k (form-spelled v) (omega arith), pow-more k)))
+pub form-takes : (v : ℕ) {r : Count} → SpelledLength v r → LengthU64 v r
+unfolding form
+form-takes v p = p

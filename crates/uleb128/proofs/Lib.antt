@@ -1,4 +1,3 @@
 pub mod Forms
-pub mod Lookup
 pub mod Widths
 pub mod ReadsForms

@@ -1,11 +1,12 @@
--- `sleb128::length_i64` meets its promise: the form is as long as the unsigned form of twice the magnitude.
+-- `sleb128::length_i64` meets its promise: the form is as long as the unsigned spelling of twice the magnitude.
 use Prim.Native.Nat.{ℕ, _*_}
 use mathlib.Core.Path.{ap, sym, _∙_}
+use mathlib.Core.Bool.{false}
 use native.Mathlib.Omega.{arith}
 use borrow.Author.Needs.{needs}
 use lib.ListN.{length}
 use lib.Signed.{mag}
-use Rattle.uleb128.specs.Unsigned.{form as unsigned-form}
+use Rattle.groups.specs.Form.{spell}
 use Rattle.sleb128.proofs.Bits.{word-back}
 use Rattle.sleb128.proofs.Forms.{form-length}
 use Rattle.sleb128.proofs.writing.length_i64.Statement.{statement}
@@ -17,7 +18,7 @@ mul-twice c = omega (arith, c .magnitude .ensures ∙ ap mag (word-back (c .befo
 returns : tie.Need-returns
 returns c =
     let m = c .before .magnitude .ensures ∙ ap mag (word-back (c .before .before .args .v) (c .before .before .fits .v .sfits)) in
-    record { is = c .length-u64 .ensures .is ∙ ap (λ (x : ℕ). length (unsigned-form (x * 2))) m ∙ sym (form-length _) }
+    record { is = c .spelled-length .ensures .is ∙ ap (λ (x : ℕ). length (spell false 128 (x * 2))) m ∙ sym (form-length _) }
 
 pub length-i64-spec : {M : Type 1} → statement M
 length-i64-spec = tie.close (tie.spec (λ c κs. search needs) mul-twice (λ c κs. search needs) returns)

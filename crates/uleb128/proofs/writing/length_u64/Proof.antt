@@ -1,34 +1,11 @@
--- `uleb128::length_u64` meets its promise: more bytes than growth values passed, until one is larger than the number.
-use Prim.Native.Nat.{_-_, _<_}
-use native.Mathlib.Omega.{arith}
+-- `uleb128::length_u64` meets its promise: the form is the number's spelling.
 use borrow.Author.Needs.{needs}
-use lib.ListN.{length}
-use Rattle.uleb128.specs.Unsigned.{form}
-use Rattle.uleb128.proofs.Forms.{form-some}
-use Rattle.uleb128.proofs.Lookup.{length-found, growth-passed, longest-length}
+use Rattle.uleb128.proofs.Forms.{form-takes}
 use Rattle.uleb128.proofs.writing.length_u64.Statement.{statement}
 use Rattle.uleb128.proofs.writing.length_u64.Tie as tie
 
-abbrev Inv-loop : tie.InvT-loop
-Inv-loop v i₀ i = i < length (form v)
-
-abbrev μ-loop : tie.MeasureT-loop
-μ-loop v i₀ i = 9 - i
-
-loop-holds : tie.Need-loop-holds Inv-loop μ-loop
-loop-holds c = form-some _
-
-returns : tie.Need-returns Inv-loop μ-loop
-returns c = length-found _ _ (search needs) (c .before .before .loop .inv) (c .if1 .taken)
-
-loop-again : tie.Need-loop-again Inv-loop μ-loop
-loop-again c = growth-passed _ _ (search needs) (c .if1 .left)
-
-returns-2 : tie.Need-returns-2 Inv-loop μ-loop
-returns-2 c = longest-length _ (search needs) (omega arith)
+returns : tie.Need-returns
+returns c = form-takes _ (c .spelled-length .ensures)
 
 pub length-u64-spec : {M : Type 1} → statement M
-length-u64-spec =
-    tie.close
-    (tie.spec Inv-loop μ-loop loop-holds (λ c. search needs) (λ c. search needs) (λ c. search needs) returns
-    (λ c. search needs) loop-again returns-2)
+length-u64-spec = tie.close (tie.spec (λ c κs. search needs) returns)
