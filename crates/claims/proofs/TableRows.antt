@@ -18,7 +18,7 @@ use Rattle.words.proofs.Cases.{by-order, by-test, clash}
 use Rattle.groups.specs.Group.{Bytes, Group, run}
 use Rattle.groups.specs.Width.{Width, reading, read, tooLarge, tooMany}
 use Rattle.groups.proofs.Run.{run-within, in-run, high-run, run-take-high, high-full, full-high}
-use Rattle.groups.proofs.Rows.{row-end, row-large, read-past, read-from, not-large, too-large, too-many, large-is, many-is}
+use Rattle.groups.proofs.Rows.{row-end, row-large, read-past, read-from, not-large, large-when, many-when, when-large, when-many}
 use Rattle.groups.proofs.FromWalk.{Sound}
 use Rattle.groups.proofs.Exact.{group-length}
 use Rattle.groups.proofs.Stands.{Stands, front-group, reading-behind, large-behind}
@@ -43,7 +43,7 @@ module _ {A : Type 0} (w : Width A) (sound : Sound w) where
       let j : length g - 2 ≡ run g - 1 = omega arith in
       let large : tooLarge w g ≡ false =
       not-large w g (omega (arith, row .fits)) (λ e. rw i at (row .allowed (omega arith))) in
-      let many : tooMany w g ≡ true = too-many w g (omega (arith, row .not-first)) (rw (i, j) at (row .too-many)) in
+      let many : tooMany w g ≡ true = many-when w g (omega (arith, row .not-first)) (rw (i, j) at (row .too-many)) in
       ap (reading w) (row .ends) ∙ reading-behind w (row .rest) (row .is-group) ∙ rw (large, many)
 
   pub row-refused : (why : Refusal) (s : List ℕ) (at : ℕ) → Row w s at why → read w s at ≡ refused (because why)
@@ -65,7 +65,7 @@ module _ {A : Type 0} (w : Width A) (sound : Sound w) where
 
   large-row : (l : List ℕ) → run l < length l → tooLarge w l ≡ true → OverflowRow w l
   large-row l h t =
-      let p = large-is w l t in
+      let p = when-large w l t in
       record { there = omega (arith, p .0); high = run-take-high l (w .most - 1) (omega (arith, p .0)); outside = p .1 }
 
   many-row : (l g rest : List ℕ) → l ≡ g ++ rest → Group g → tooLarge w g ≡ false → tooMany w g ≡ true → NotShortestRow w l
@@ -73,7 +73,7 @@ module _ {A : Type 0} (w : Width A) (sound : Sound w) where
       let n : length g ≡ suc (run g) = group-length r in
       let i : length g - 1 ≡ run g = omega arith in
       let j : length g - 2 ≡ run g - 1 = omega arith in
-      let p = many-is w g many in
+      let p = when-many w g many in
       record {
         group = g;
         rest = rest;
@@ -81,12 +81,12 @@ module _ {A : Type 0} (w : Width A) (sound : Sound w) where
         is-group = r;
         fits =
             by-order (w .most) (length g)
-            (λ l. clash small (too-large w g (omega arith)
+            (λ l. clash small (large-when w g (omega arith)
             (sound .low (getD g (w .most - 1) 0) (in-run g (w .most - 1) (omega (arith, sound .some))))))
             (λ l. l);
         allowed = λ m.
             by-test (w .allowed (getD g (length g - 1) 0)) (λ t. t)
-            (λ t. let q : w .most - 1 ≡ length g - 1 = omega arith in clash small (too-large w g (omega arith) (rw q t)));
+            (λ t. let q : w .most - 1 ≡ length g - 1 = omega arith in clash small (large-when w g (omega arith) (rw q t)));
         not-first = omega (arith, p .0);
         too-many = rw (i, j) (p .1);
       }

@@ -26,7 +26,7 @@ use Rattle.blocks.specs.declared.Step.the-variants as S
 use Rattle.blocks.specs.declared.Value.the-variants as N
 use Rattle.blocks.proofs.StepRows.{some-step-row, step-row-kept}
 use Rattle.listing.specs.Listing.{text, Stage, top, at, ended, Coming, line, lineOf, next, row, rows, lineRoom}
-use Rattle.listing.specs.Promise.{meansListing, meansNext, asked, counted, fronted, GivesLine}
+use Rattle.listing.specs.Promise.{meansListing, meansNext, asked, fronted, GivesLine, lineCounted}
 use Rattle.listing.specs.declared.Listing.{Listing}
 use Rattle.listing.specs.declared.Listing.the-variants as L
 use Rattle.listing.specs.declared.Next.{Next}
@@ -63,7 +63,7 @@ buffer l = replicate (lineRoom + length l) 0
 
 module _ (s : List ℕ) (g : Stage) where
   -- the line that comes next, and the lines behind it
-  goes-on : (x : Coming (List ℕ)) → next s g ≡ x → Left.Left s g x
+  goes-on : (x : Coming (List ℕ)) → next s g ≡ x → Left.Comes s g x
       → ((g′ : Stage) → Fine s g′ → rank s g′ < rank s g → LinesGiven s (listingAt g′) (left s g′)) → LinesGiven s (listingAt g) (left s g)
   goes-on _ e (Left.none f) rest = rw f (none (listingAt g) (buffer []) (buffer []) (omega arith) (Lines.line-none (omega arith) (rw (staged g) e)))
   goes-on _ e (Left.more l g′ fine f falls) rest =
@@ -107,7 +107,7 @@ Sayable x = (r : Next) × (meansNext r ≡ x)
 say-line : (n : ℕ) (g : Stage) → Sayable (line n g)
 say-line n g = (X.Line (record { 0 = n }) (listingAt g), rw (staged g))
 
-said-at : (p : ℕ) (r : Step) → Sayable (counted (lineOf p (meansStep r)))
+said-at : (p : ℕ) (r : Step) → Sayable (lineCounted (lineOf p (meansStep r)))
 said-at p (S.Number (N.Unsigned v) n c) = say-line _ (at (c .place .0))
 said-at p (S.Number (N.Signed v) n c) = (X.Ended, refl)
 said-at p (S.Gap why n c) = say-line _ (at (c .place .0))
@@ -115,7 +115,7 @@ said-at p (S.Tail n c) = say-line _ ended
 said-at p (S.Finished c) = (X.Ended, refl)
 said-at p (S.Refused why) = (X.Refused why, refl)
 
-said-next : (s : List ℕ) (g : Stage) → Bytes s → Sayable (counted (next s g))
+said-next : (s : List ℕ) (g : Stage) → Bytes s → Sayable (lineCounted (next s g))
 said-next s top bytes =
     by-order blockLimit (length s) (λ h. rw (lt-ltb blockLimit (length s) h) (say-line _ ended)) (λ h. rw (le-ltb blockLimit (length s) h) (say-line _ (at 0)))
 said-next s (at p) bytes =

@@ -21,7 +21,7 @@ use Rattle.groups.specs.Group.{run, Group, one, more}
 use Rattle.groups.specs.Form.{say, spell}
 use Rattle.groups.specs.Width.{Width, tooLarge, tooMany}
 use Rattle.groups.proofs.Run.{run-low, run-high, in-run, at-run, pow-up}
-use Rattle.groups.proofs.Rows.{too-large, not-large, first-not-many}
+use Rattle.groups.proofs.Rows.{not-large, first-not-many, large-when}
 use Rattle.groups.proofs.FromWalk.{Sound}
 use Rattle.groups.proofs.Spelling.{say-below, said, say-say, say-high, Spelled, last, byte, spelled, times-more, last-bounds, last-small, spelled-group, spelled-unique, spelled-short}
 
@@ -124,7 +124,7 @@ module _ {A : Type 0} {w : Width A} {below : Bool} {small top : ℕ} (k : Spells
 
     limit-large : 128 ^ (w .most - 1) * (top + 1) ≤ m → tooLarge w g ≡ true
     limit-large h =
-        too-large w g (limit-long h)
+        large-when w g (limit-long h)
         (by-order (w .most - 1) (run g) (λ l. k .sound .low (getD g (w .most - 1) 0) (in-run g (w .most - 1) l))
         (λ l.
         let i : run g ≡ w .most - 1 = omega (arith, limit-long h) in

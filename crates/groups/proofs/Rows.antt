@@ -2,12 +2,12 @@
 --
 --   closed-not-out              row 1's test fails where a byte is below 128,
 --   long-not-out                and where the run is at least the most bytes
---   too-large                   row 2's test holds where all bytes before the greatest length are 128 or more, and the one there is not allowed
+--   large-when                  row 2's test holds where all bytes before the greatest length are 128 or more, and the one there is not allowed
 --   short-not-large             it fails where the run is shorter
---   too-many                    row 3's test holds where the last byte isn't the first, and is one too many
+--   many-when                   row 3's test holds where the last byte isn't the first, and is one too many
 --   first-not-many              it fails where the last byte is the first
 --   not-large                   row 2's test fails where the last byte comes within the greatest length, and is allowed if at that length
---   large-is, many-is           what the tests of row 2 and of row 3 say of the bytes where they hold
+--   when-large, when-many       what the tests of row 2 and of row 3 say of the bytes where they hold
 --   row-end                     fewer bytes than the most, each of 128 or more: refusal 1
 --   row-large                   a byte at the greatest length that is not allowed, all earlier ones 128 or more: refusal 2
 --   row-many                    a number that ends, isn't too large, and has a last byte one too many: refusal 3
@@ -32,9 +32,9 @@ use Rattle.groups.specs.Width.{Width, runsOut, tooLarge, tooMany, readin
 use Rattle.groups.proofs.Run.{run-within}
 
 module _ {A : Type 0} (w : Width A) where
-  runs-out : (l : List ℕ) → run l ≡ length l → run l < w .most → runsOut w l ≡ true
+  out-when : (l : List ℕ) → run l ≡ length l → run l < w .most → runsOut w l ≡ true
   unfolding runsOut
-  runs-out l e h = rw (eq-eqb (run l) (length l) e, lt-ltb (run l) (w .most) h)
+  out-when l e h = rw (eq-eqb (run l) (length l) e, lt-ltb (run l) (w .most) h)
 
   pub closed-not-out : (l : List ℕ) → run l < length l → runsOut w l ≡ false
   unfolding runsOut
@@ -46,9 +46,9 @@ module _ {A : Type 0} (w : Width A) where
   unfolding runsOut
   long-not-out l h = rw (le-ltb (run l) (w .most) h) (both-false (eqb (run l) (length l)))
 
-  pub too-large : (l : List ℕ) → w .most ≤ run l + 1 → w .allowed (getD l (w .most - 1) 0) ≡ false → tooLarge w l ≡ true
+  pub large-when : (l : List ℕ) → w .most ≤ run l + 1 → w .allowed (getD l (w .most - 1) 0) ≡ false → tooLarge w l ≡ true
   unfolding tooLarge
-  too-large l h e = rw (le-leb (w .most) (run l + 1) h, e)
+  large-when l h e = rw (le-leb (w .most) (run l + 1) h, e)
 
   pub short-not-large : (l : List ℕ) → run l + 1 < w .most → tooLarge w l ≡ false
   unfolding tooLarge
@@ -58,9 +58,9 @@ module _ {A : Type 0} (w : Width A) where
   unfolding tooLarge
   allowed-not-large l e = rw e (both-false (leb (w .most) (run l + 1)))
 
-  pub too-many : (l : List ℕ) → 0 < run l → w .extra (getD l (run l - 1) 0) (getD l (run l) 0) ≡ true → tooMany w l ≡ true
+  pub many-when : (l : List ℕ) → 0 < run l → w .extra (getD l (run l - 1) 0) (getD l (run l) 0) ≡ true → tooMany w l ≡ true
   unfolding tooMany
-  too-many l h e = rw (lt-ltb 0 (run l) h, e)
+  many-when l h e = rw (lt-ltb 0 (run l) h, e)
 
   pub first-not-many : (l : List ℕ) → run l ≡ 0 → tooMany w l ≡ false
   unfolding tooMany
@@ -79,21 +79,21 @@ module _ {A : Type 0} (w : Width A) where
       (λ s. let e : run l + 1 ≡ w .most = omega arith in let i : w .most - 1 ≡ run l = omega arith in allowed-not-large l (rw i (f e)))
 
   -- and from the tests
-  pub large-is : (l : List ℕ) → tooLarge w l ≡ true → (w .most ≤ run l + 1) × (w .allowed (getD l (w .most - 1) 0) ≡ false)
+  pub when-large : (l : List ℕ) → tooLarge w l ≡ true → (w .most ≤ run l + 1) × (w .allowed (getD l (w .most - 1) 0) ≡ false)
   unfolding tooLarge
-  large-is l e =
+  when-large l e =
       let p = both-true (leb (w .most) (run l + 1)) (not (w .allowed (getD l (w .most - 1) 0))) e in
       (leb-true (w .most) (run l + 1) (p .0), not-true (w .allowed (getD l (w .most - 1) 0)) (p .1))
 
-  pub many-is : (l : List ℕ) → tooMany w l ≡ true → (0 < run l) × (w .extra (getD l (run l - 1) 0) (getD l (run l) 0) ≡ true)
+  pub when-many : (l : List ℕ) → tooMany w l ≡ true → (0 < run l) × (w .extra (getD l (run l - 1) 0) (getD l (run l) 0) ≡ true)
   unfolding tooMany
-  many-is l e =
+  when-many l e =
       let p = both-true (ltb 0 (run l)) (w .extra (getD l (run l - 1) 0) (getD l (run l) 0)) e in (ltb-true 0 (run l) (p .0), p .1)
 
   -- row 1: fewer bytes than the most, and each is 128 or more
   pub row-end : (l : List ℕ) → run l ≡ length l → run l < w .most → reading w l ≡ refused (by 1)
   unfolding reading
-  row-end l e h = rw (runs-out l e h)
+  row-end l e h = rw (out-when l e h)
 
   -- row 2: the byte at the greatest length is there, all earlier are 128 or more, and it is not allowed
   pub row-large : (l : List ℕ) → w .most ≤ length l → w .most ≤ run l + 1 → w .allowed (getD l (w .most - 1) 0) ≡ false
@@ -101,14 +101,14 @@ module _ {A : Type 0} (w : Width A) where
   unfolding reading
   row-large l there h e =
       let out : runsOut w l ≡ false = by-order (run l) (length l) (λ c. closed-not-out l c) (λ c. long-not-out l (omega (arith, run-within l))) in
-      rw (out, too-large l h e)
+      rw (out, large-when l h e)
 
   module _ (l : List ℕ) (ends : run l < length l) (fits : run l + 1 ≤ w .most)
       (last : run l + 1 ≡ w .most → w .allowed (getD l (run l) 0) ≡ true) where
     -- row 3: the number ends, not too large, and its last byte isn't the first and is one too many
     pub row-many : 0 < run l → w .extra (getD l (run l - 1) 0) (getD l (run l) 0) ≡ true → reading w l ≡ refused (by 3)
     unfolding reading
-    row-many h e = rw (closed-not-out l ends, not-large l fits last, too-many l h e)
+    row-many h e = rw (closed-not-out l ends, not-large l fits last, many-when l h e)
 
     -- no row: the number
     pub row-number : (0 < run l → w .extra (getD l (run l - 1) 0) (getD l (run l) 0) ≡ false)

@@ -25,7 +25,7 @@ use Rattle.groups.specs.Begins.{Begins}
 use Rattle.groups.specs.Group.{Bytes, run, Group, one, more}
 use Rattle.groups.specs.Width.{Width, runsOut, tooLarge, tooMany, reading, read}
 use Rattle.groups.proofs.Run.{run-low, run-high, run-within, in-run}
-use Rattle.groups.proofs.Rows.{closed-not-out, short-not-large, too-large, row-end, read-past, read-from}
+use Rattle.groups.proofs.Rows.{closed-not-out, short-not-large, row-end, read-past, read-from, large-when}
 use Rattle.groups.proofs.FromWalk.{Sound, overrun-large}
 use Rattle.groups.proofs.Exact.{group-length}
 
@@ -153,7 +153,7 @@ count-within w {n = n} sound g =
     (λ l.
     let e : length (g .group) ≡ suc (run (g .group)) = group-length (g .is-group) in
     let t : tooLarge w (g .group) ≡ true =
-    too-large w (g .group) (omega (arith, g .count)) (sound .low (getD (g .group) (w .most - 1) 0)
+    large-when w (g .group) (omega (arith, g .count)) (sound .low (getD (g .group) (w .most - 1) 0)
     (in-run (g .group) (w .most - 1) (omega (arith, g .count, sound .some)))) in
     clash (g .not-large) t)
     (λ l. l)

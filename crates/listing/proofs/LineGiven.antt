@@ -15,11 +15,11 @@ use Rattle.words.specs.Answer.{by}
 use Rattle.words.specs.declared.Count.{Count}
 use Rattle.words.proofs.Cases.{by-order}
 use Rattle.listing.specs.Listing.{Stage, Coming, line, over, refuses, next, lineRoom}
-use Rattle.listing.specs.Promise.{meansListing, meansNext, asked, counted, fronted, GivesLine}
+use Rattle.listing.specs.Promise.{meansListing, meansNext, asked, fronted, GivesLine, lineCounted}
 use Rattle.listing.specs.declared.Listing.{Listing}
 use Rattle.listing.specs.declared.Next.{Next}
 use Rattle.listing.specs.declared.Next.the-variants as X
-use Rattle.listing.proofs.TextLeft.{Fine, left, rank, Left, none, more, next-left}
+use Rattle.listing.proofs.TextLeft.{Fine, left, rank, none, more, next-left, Comes}
 
 pub record LineGiven (s : List ℕ) (g : Stage) (n : ℕ) (g′ : Stage) (after : List ℕ) : Type 0 where
   pub within : n ≤ length after
@@ -29,7 +29,7 @@ pub record LineGiven (s : List ℕ) (g : Stage) (n : ℕ) (g′ : Stage) (after 
 
 module _ {s : List ℕ} {g : Stage} where
   line-took : {n : ℕ} {g′ : Stage} {after : List ℕ} (x : Coming (List ℕ)) (before : List ℕ)
-      → Left s g x → line n g′ ≡ counted x → after ≡ fronted x before → LineGiven s g n g′ after
+      → Comes s g x → line n g′ ≡ lineCounted x → after ≡ fronted x before → LineGiven s g n g′ after
   line-took _ before (none e) a f = let z : _≡_ {A = ℕ} 0 1 = cc in absurd (omega arith)
   line-took {n} {g′} {after} _ before (more l g″ fine e falls) a f =
       let i : n ≡ length l = cc in
@@ -42,14 +42,14 @@ module _ {s : List ℕ} {g : Stage} where
         goes-on = rw (t, j) e;
       }
 
-  over-left : (x : Coming (List ℕ)) → Left s g x → over ≡ counted x → left s g ≡ []
+  over-left : (x : Coming (List ℕ)) → Comes s g x → over ≡ lineCounted x → left s g ≡ []
   over-left _ (none e) a = e
   over-left _ (more l g″ fine e falls) a = let z : _≡_ {A = ℕ} 0 1 = cc in absurd (omega arith)
 
 module _ {s : List ℕ} {g : Listing} (fine : Fine s (meansListing g)) {before after : List ℕ} where
   pub line-given : {r : Next} {n : Count} {g′ : Listing} → GivesLine g s before r after → r ≡ X.Line n g′ → LineGiven s (meansListing g) (n .0) (meansListing g′) after
   line-given {r} {n} {g′} e is =
-      let answer : line (n .0) (meansListing g′) ≡ counted (asked s (meansListing g) (length before)) = ap meansNext (sym is) ∙ e .answer in
+      let answer : line (n .0) (meansListing g′) ≡ lineCounted (asked s (meansListing g) (length before)) = ap meansNext (sym is) ∙ e .answer in
       by-order (length before) lineRoom
       (λ h.
       let f : line (n .0) (meansListing g′) ≡ refuses (by 5) = rw (lt-ltb (length before) lineRoom h) at answer in

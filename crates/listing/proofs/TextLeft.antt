@@ -4,7 +4,7 @@
 --   Fine s g          a stage that a listing of s comes to: its top, such a start, or its end
 --   left s g          the text that is left there
 --   rank s g          at least the count of the lines that are left there
---   Left s g x        x is what comes next: nothing, where no text is left; or a line, and behind it the rest of the text and a lower rank
+--   Comes s g x       x is what comes next: nothing, where no text is left; or a line, and behind it the rest of the text and a lower rank
 --   next-left         so it is at every stage that a listing comes to
 use Prim.Native.Nat.{ℕ, _+_, _-_, _≤_, _<_}
 use mathlib.Core.Path.{_≡_, refl, sym, _∙_}
@@ -42,9 +42,9 @@ rank s top = length s + 2
 rank s (at p) = length s - p + 1
 rank s ended = 0
 
-pub data Left (s : List ℕ) (g : Stage) : Coming (List ℕ) → Type 0 where
-  none : left s g ≡ [] → Left s g over
-  more : (l : List ℕ) (g′ : Stage) → Fine s g′ → left s g ≡ l ++ left s g′ → rank s g′ < rank s g → Left s g (line l g′)
+pub data Comes (s : List ℕ) (g : Stage) : Coming (List ℕ) → Type 0 where
+  none : left s g ≡ [] → Comes s g over
+  more : (l : List ℕ) (g′ : Stage) → Fine s g′ → left s g ≡ l ++ left s g′ → rank s g′ < rank s g → Comes s g (line l g′)
 
 -- a group's line, whether it is a number or not
 group-line : (a : Answer (ℕ × ℕ)) (n p : ℕ) → lineOf p (says (valued unsigned a) n p) ≡ line (rowOf p a n) (at (p + n))
@@ -56,7 +56,7 @@ unfolding rows
 tail-row p [] h = absurd (omega arith)
 tail-row p (c ∷ t) h = refl
 
-at-start : (s : List ℕ) (p : ℕ) → StartWithin s p → AtStart s p → Left s (at p) (next s (at p))
+at-start : (s : List ℕ) (p : ℕ) → StartWithin s p → AtStart s p → Comes s (at p) (next s (at p))
 unfolding rows
 at-start s p b (the-end e) = rw (end-says s p e Unsigned (b .short)) (none (rw (end-cut s p e)))
 at-start s p b (a-tail k) =
@@ -68,7 +68,7 @@ at-start s p b (a-group g k) =
     rw (group-says k Unsigned (b .short) (b .start), group-line (reading u64 g) (length g) p)
     (more (groupRow p g) (at (p + length g)) (record { short = b .short; start = next-start k }) (rw (group-cut k)) (omega (arith, here-long k, here-within k)))
 
-pub next-left : (s : List ℕ) (g : Stage) → Fine s g → Left s g (next s g)
+pub next-left : (s : List ℕ) (g : Stage) → Fine s g → Comes s g (next s g)
 unfolding text
 next-left s top fine =
     by-order blockLimit (length s)

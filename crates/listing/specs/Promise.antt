@@ -2,7 +2,7 @@
 --
 --   meansListing, meansNext   what a listing and an answer say; a line is told by the count of its bytes
 --   asked                     what comes next where the buffer has so many bytes: 5 if they are too few for a line
---   counted, fronted          its count of bytes, and the buffer afterwards: the line's bytes are its first, all else is kept
+--   lineCounted, fronted      its count of bytes, and the buffer afterwards: the line's bytes are its first, all else is kept
 --   GivesLine                 what follows on a listing of the block s
 use Prim.Native.Nat.{ℕ}
 use mathlib.Core.List.{List, _++_}
@@ -29,10 +29,10 @@ meansNext (X.Refused why) = refuses (because why)
 abbrev pub asked : List ℕ → Stage → ℕ → Coming (List ℕ)
 asked s g room = pick (ltb room lineRoom) (refuses (by 5)) (next s g)
 
-abbrev pub counted : Coming (List ℕ) → Coming ℕ
-counted (line l g) = line (length l) g
-counted over = over
-counted (refuses k) = refuses k
+abbrev pub lineCounted : Coming (List ℕ) → Coming ℕ
+lineCounted (line l g) = line (length l) g
+lineCounted over = over
+lineCounted (refuses k) = refuses k
 
 abbrev pub fronted : Coming (List ℕ) → List ℕ → List ℕ
 fronted (line l g) s = l ++ drop (length l) s
@@ -40,5 +40,5 @@ fronted over s = s
 fronted (refuses k) s = s
 
 pub record GivesLine (g : Listing) (s before : List ℕ) (r : Next) (after : List ℕ) : Type 0 where
-  pub answer : meansNext r ≡ counted (asked s (meansListing g) (length before))
+  pub answer : meansNext r ≡ lineCounted (asked s (meansListing g) (length before))
   pub leaves : after ≡ fronted (asked s (meansListing g) (length before)) before

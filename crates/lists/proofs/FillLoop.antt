@@ -18,7 +18,7 @@ use lib.ListN.{length, drop, set, length-set}
 use lib.Seq.{sets, sets-eq}
 use Rattle.words.specs.Answer.{Answer, gives, refused, Why}
 use Rattle.lists.specs.Strict.{numbers, filling}
-use Rattle.lists.specs.Inner.{ahead, Room, Fits, Behind}
+use Rattle.lists.specs.Inner.{Room, Behind, numberAhead, HoldsAll}
 use Rattle.lists.specs.Promise.{ReadsStrict}
 use Rattle.lists.specs.declared.Numbers.{Numbers}
 use Rattle.lists.specs.declared.ReadList.the-variants.{Filled}
@@ -30,16 +30,16 @@ abbrev poured : Answer (List ℕ) → List ℕ → ℕ → List ℕ
 poured (gives ns) out i = sets out i ns
 poured (refused k) out i = out
 
-room-for-one : (v : ℕ) (a : Answer (List ℕ)) (i room : ℕ) → Room (ahead v a) i room → i < room
+room-for-one : (v : ℕ) (a : Answer (List ℕ)) (i room : ℕ) → Room (numberAhead v a) i room → i < room
 room-for-one v (gives ns) i room h = omega arith
 room-for-one v (refused k) i room h = absurd h
 
-room-behind : (v : ℕ) (a : Answer (List ℕ)) (i room : ℕ) → Room (ahead v a) i room → Room a (i + 1) room
+room-behind : (v : ℕ) (a : Answer (List ℕ)) (i room : ℕ) → Room (numberAhead v a) i room → Room a (i + 1) room
 room-behind v (gives ns) i room h = omega arith
 room-behind v (refused k) i room h = h
 
-poured-one : (v : ℕ) (a : Answer (List ℕ)) (out : List ℕ) (i room : ℕ) → Room (ahead v a) i room
-    → poured a (set out i v) (i + 1) ≡ poured (ahead v a) out i
+poured-one : (v : ℕ) (a : Answer (List ℕ)) (out : List ℕ) (i room : ℕ) → Room (numberAhead v a) i room
+    → poured a (set out i v) (i + 1) ≡ poured (numberAhead v a) out i
 poured-one v (gives ns) out i room h = rw (add-one i)
 poured-one v (refused k) out i room h = absurd h
 
@@ -54,7 +54,7 @@ pub record Poured (s old out : List ℕ) (at count : ℕ) : Type 0 where
   pub enough : Room (numbers (drop at s)) count (length old)
   pub left : poured (numbers (drop at s)) out count ≡ poured (numbers s) old 0
 
-module _ (s old : List ℕ) (fits : Fits s (length old)) where
+module _ (s old : List ℕ) (fits : HoldsAll s (length old)) where
   pub none-poured : Poured s old old 0 0
   none-poured = record { counts = none-counted s (fits .short); kept = refl; enough = fits .enough; left = refl }
 
@@ -64,7 +64,7 @@ module _ (s old : List ℕ) (fits : Fits s (length old)) where
 
     pub one-poured : {v q : ℕ} → Behind s at v q → Poured s old (set out count v) q (count + 1)
     one-poured {v} {q} b =
-        let r : Room (ahead v (numbers (drop q s))) count (length old) = rw (b .left) at (g .enough) in
+        let r : Room (numberAhead v (numbers (drop q s))) count (length old) = rw (b .left) at (g .enough) in
         record {
           counts = one-counted s (g .counts) b;
           kept = length-set out count v ∙ g .kept;

@@ -19,7 +19,7 @@ use Rattle.blocks.specs.GroupsAndTail.{TailAt}
 use Rattle.blocks.specs.declared.Rule.the-variants.{Unsigned}
 use Rattle.blocks.proofs.FromStart.{GroupHere, AtStart, the-end, a-tail, a-group, from-start, here-long, next-start, group-cut, tail-says, group-says}
 use Rattle.lists.specs.Strict.{joined, numbersOf, numbers}
-use Rattle.lists.specs.Inner.{ahead, StartsBefore, Behind}
+use Rattle.lists.specs.Inner.{StartsBefore, Behind, numberAhead}
 use Rattle.lists.proofs.NumbersInFront.{numbers-tail}
 
 -- what a group's step says, taken apart by its case
@@ -35,7 +35,7 @@ said-no-tail : {X : Type 0} (a : Answer (ℕ × ℕ)) (n p : ℕ) {m q : ℕ} �
 said-no-tail (gives x) n p e = let z : _≡_ {A = ℕ} 0 1 = cc in absurd (omega arith)
 said-no-tail (refused k) n p e = let z : _≡_ {A = ℕ} 0 1 = cc in absurd (omega arith)
 
-joined-ahead : (v m : ℕ) (a : Answer (List ℕ)) → joined (gives (v, m)) a ≡ ahead v a
+joined-ahead : (v m : ℕ) (a : Answer (List ℕ)) → joined (gives (v, m)) a ≡ numberAhead v a
 joined-ahead v m (gives ns) = refl
 joined-ahead v m (refused k) = refl
 

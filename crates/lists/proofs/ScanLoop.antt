@@ -17,7 +17,7 @@ use Rattle.blocks.specs.Block.{blockLimit}
 use Rattle.blocks.specs.GroupsAndTail.{Start}
 use Rattle.blocks.proofs.FromStart.{front-start}
 use Rattle.lists.specs.Strict.{numbers}
-use Rattle.lists.specs.Inner.{ahead, many, StartsBefore, Behind}
+use Rattle.lists.specs.Inner.{many, StartsBefore, Behind, numberAhead}
 use Rattle.lists.proofs.NumbersInFront.{numbers-none}
 
 abbrev added : ℕ → Answer ℕ → Answer ℕ
@@ -28,7 +28,7 @@ added-none : (a : Answer ℕ) → a ≡ added 0 a
 added-none (gives m) = ap gives (omega arith)
 added-none (refused k) = refl
 
-added-one : (n v : ℕ) (a : Answer (List ℕ)) → added n (many (ahead v a)) ≡ added (n + 1) (many a)
+added-one : (n v : ℕ) (a : Answer (List ℕ)) → added n (many (numberAhead v a)) ≡ added (n + 1) (many a)
 added-one n v (gives ns) = ap gives (omega arith)
 added-one n v (refused k) = refl
 

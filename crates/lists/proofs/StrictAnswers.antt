@@ -17,7 +17,7 @@ use Rattle.words.specs.declared.Refusal.{Refusal}
 use Rattle.words.specs.declared.Refusal.the-variants.{TooLong, NoRoom}
 use Rattle.blocks.specs.Block.{blockLimit}
 use Rattle.lists.specs.Strict.{numbers, counted, filling, strict, filled}
-use Rattle.lists.specs.Inner.{many, Room, Fits}
+use Rattle.lists.specs.Inner.{many, Room, HoldsAll}
 use Rattle.lists.specs.Promise.{meansReadList, ReadsStrict}
 use Rattle.lists.specs.declared.ReadList.{ReadList}
 use Rattle.lists.specs.declared.ReadList.the-variants.{Refused}
@@ -53,7 +53,7 @@ filling-fault : (a : Answer (List ℕ)) {k : Why} (old : List ℕ) → refused k
 filling-fault (gives ns) old e = let z : _≡_ {A = ℕ} 0 1 = cc in absurd (omega arith)
 filling-fault (refused k) old e = refl
 
-pub slice-fits : (s : List ℕ) {n room : ℕ} → length s ≤ blockLimit → gives n ≡ many (numbers s) → n ≤ room → Fits s room
+pub slice-fits : (s : List ℕ) {n room : ℕ} → length s ≤ blockLimit → gives n ≡ many (numbers s) → n ≤ room → HoldsAll s room
 slice-fits s short e h = record { short = short; enough = room-of (numbers s) e h }
 
 module _ (s old : List ℕ) where

@@ -1,9 +1,9 @@
 -- What the functions inside the crate ask and promise, over what is left of the block.
 --
---   ahead v a          the answer a with the number v in front
+--   numberAhead v a    the answer a with the number v in front
 --   many a             how many numbers
 --   Room a i room      a is numbers, and behind i others there is room for them
---   Fits s room        the block s has no fault, and there is room for its numbers
+--   HoldsAll s room    the block s has no fault, and there is room for its numbers
 --   StartsBefore s p   p is a start of the block s, before its end
 --   Behind s p v q     the number v stands at the start p, and q is the start behind it
 --   Passes s p r       r says what stands at the start p: a fault, or a number and the place behind it
@@ -22,9 +22,9 @@ use Rattle.lists.specs.declared.reading.Passed.the-variants as P
 use Rattle.lists.specs.declared.reading.Scanned.{Scanned}
 use Rattle.lists.specs.declared.reading.Scanned.the-variants as C
 
-abbrev pub ahead : ℕ → Answer (List ℕ) → Answer (List ℕ)
-ahead v (gives ns) = gives (v ∷ ns)
-ahead v (refused k) = refused k
+abbrev pub numberAhead : ℕ → Answer (List ℕ) → Answer (List ℕ)
+numberAhead v (gives ns) = gives (v ∷ ns)
+numberAhead v (refused k) = refused k
 
 abbrev pub many : Answer (List ℕ) → Answer ℕ
 many (gives ns) = gives (length ns)
@@ -34,7 +34,7 @@ abbrev pub Room : Answer (List ℕ) → ℕ → ℕ → Type 0
 Room (gives ns) i room = i + length ns ≤ room
 Room (refused k) i room = ⊥
 
-pub record Fits (s : List ℕ) (room : ℕ) : Type 0 where
+pub record HoldsAll (s : List ℕ) (room : ℕ) : Type 0 where
   pub short : length s ≤ blockLimit
   pub enough : Room (numbers s) 0 room
 
@@ -46,7 +46,7 @@ pub record StartsBefore (s : List ℕ) (p : ℕ) : Type 0 where
 pub record Behind (s : List ℕ) (p v q : ℕ) : Type 0 where
   pub further : p < q
   pub start : Start s q
-  pub left : numbers (drop p s) ≡ ahead v (numbers (drop q s))
+  pub left : numbers (drop p s) ≡ numberAhead v (numbers (drop q s))
 
 abbrev pub Passes : List ℕ → ℕ → Passed → Type 0
 Passes s p (P.Number v q) = Behind s p v q

@@ -11,7 +11,7 @@ use words::Refusal;
 ghost use Prim.Native.Nat.{_≤_};
 ghost use lib.ListN.{length};
 ghost use Rattle.blocks.specs.Block.{blockLimit};
-ghost use Rattle.lists.specs.Inner.{StartsBefore, Passes, Scans, Fits};
+ghost use Rattle.lists.specs.Inner.{StartsBefore, Passes, Scans, HoldsAll};
 ghost use Rattle.lists.specs.Promise.{ReadsStrict};
 
 // A group's number with the place behind it, or the fault there.
@@ -72,7 +72,7 @@ fn scan(block: &[u8]) -> Scanned
 
 // The second pass: stores the numbers of a block without a fault, for which there is room. So it meets no fault.
 fn fill(block: &[u8], numbers: &mut [u64]) -> ReadList
-    requires { ⌜ Fits (now block) (length (now numbers)) ⌝ }
+    requires { ⌜ HoldsAll (now block) (length (now numbers)) ⌝ }
     ensures { λ r. ⌜ ReadsStrict (now (block .entry)) (now (numbers .entry)) r (now (numbers .exit)) ⌝ }
 {
     let mut at: usize = 0;

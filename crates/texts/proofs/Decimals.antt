@@ -1,6 +1,6 @@
 -- The digits that `io::decimal` makes are those of `decimal`, and a number of 64 bits has 20 at most.
 --
---   Spelled v l                    l is the digits of v
+--   DigitsOf v l                   l is the digits of v
 --   decimal-small, decimal-large   the two equations of `decimal`
 --   lays-decimal                   where the fewest digits that hold a number, at least one, are laid down, `decimal` of it is
 --   at-most-20                     how many a number of 64 bits has
@@ -16,17 +16,17 @@ use Rattle.words.proofs.Cases.{by-order}
 use Rattle.texts.specs.Texts.{decimal, decimalWithin, LaysText}
 
 -- l is the digits of v
-pub data Spelled : ℕ → List ℕ → Type 0 where
-  one : {v : ℕ} → v < 10 → Spelled v ((48 + v) ∷ [])
-  more : {v : ℕ} {l : List ℕ} → 10 ≤ v → Spelled (v / 10) l → Spelled v (l ++ (48 + v % 10) ∷ [])
+pub data DigitsOf : ℕ → List ℕ → Type 0 where
+  one : {v : ℕ} → v < 10 → DigitsOf v ((48 + v) ∷ [])
+  more : {v : ℕ} {l : List ℕ} → 10 ≤ v → DigitsOf (v / 10) l → DigitsOf v (l ++ (48 + v % 10) ∷ [])
 
-unique : {v : ℕ} {l m : List ℕ} → Spelled v l → Spelled v m → l ≡ m
+unique : {v : ℕ} {l m : List ℕ} → DigitsOf v l → DigitsOf v m → l ≡ m
 unique (one h) (one k) = refl
 unique (one h) (more k q) = absurd (omega arith)
 unique (more h p) (one k) = absurd (omega arith)
 unique {v} (more h p) (more k q) = ap (λ (l : List ℕ). l ++ (48 + v % 10) ∷ []) (unique p q)
 
-within : (n v : ℕ) → v ≤ n → Spelled v (decimalWithin n v)
+within : (n v : ℕ) → v ≤ n → DigitsOf v (decimalWithin n v)
 unfolding decimalWithin
 within zero v h = one {v = v} (omega arith)
 within (suc n) v h =
@@ -34,7 +34,7 @@ within (suc n) v h =
     (λ b. rw (lt-ltb v 10 b, decimalWithin) (one b))
     (λ b. rw (le-ltb v 10 b, decimalWithin) (more b (within n (v / 10) (omega arith))))
 
-spelled : (v : ℕ) → Spelled v (decimal v)
+spelled : (v : ℕ) → DigitsOf v (decimal v)
 unfolding decimal
 spelled v = within v v (omega arith)
 
@@ -51,7 +51,7 @@ ten : (k : ℕ) → 10 ≤ 10 ^ suc k
 ten zero = omega arith
 ten (suc k) = omega (arith, ten k, pow-succ' 10 (suc k))
 
-digits-spelled : (k v : ℕ) → Fewest 10 1 v k → Spelled v (digits 10 k v)
+digits-spelled : (k v : ℕ) → Fewest 10 1 v k → DigitsOf v (digits 10 k v)
 digits-spelled zero v f = absurd (omega (arith, f .0))
 digits-spelled (suc zero) v f = let h : v < 10 = omega (arith, f .1) in let e : v % 10 ≡ v = omega arith in rw (e, digit v h) (one h)
 digits-spelled (suc (suc k)) v f =
@@ -69,7 +69,7 @@ fewest k v f = unique (digits-spelled k v f) (spelled v)
 pub lays-decimal : (k v : ℕ) {t s s′ : List ℕ} {at r : ℕ} → Fewest 10 1 v k → t ≡ digits 10 k v → LaysText t s at r s′ → LaysText (decimal v) s at r s′
 lays-decimal k v f e p = rw (← (fewest k v f), ← e) p
 
-at-most : (k : ℕ) {v : ℕ} {l : List ℕ} → Spelled v l → v < 10 ^ suc k → length l ≤ suc k
+at-most : (k : ℕ) {v : ℕ} {l : List ℕ} → DigitsOf v l → v < 10 ^ suc k → length l ≤ suc k
 at-most k (one h) b = omega arith
 at-most zero (more h p) b = absurd (omega arith)
 at-most (suc k) (more {v} {l} h p) b = rw (length-append l ((48 + v % 10) ∷ [])) (omega (arith, at-most k p (omega (arith, pow-succ' 10 (suc k)))))

@@ -37,7 +37,7 @@ use Rattle.uleb128.specs.declared.ReadU64.{ReadU64}
 use Rattle.uleb128.specs.declared.ReadU64.the-variants.{Number}
 use Rattle.uleb128.proofs.Widths.{sound}
 use Rattle.uleb128.proofs.ReadsForms.{read-begins}
-use Rattle.uleb128_rec.specs.Inner.{ahead, Joins}
+use Rattle.uleb128_rec.specs.Inner.{Joins, byteAhead}
 
 -- a number that is one byte 0
 zero-alone : (l : List ℕ) → run l ≡ 0 → getD l (run l) 0 ≡ 0 → digits (take (run l + 1) l) ≡ 0
@@ -55,7 +55,7 @@ above-zero l h =
     omega (arith, digits-take l (run l) in-l))
     (λ out. let z : getD l (run l) 0 ≡ 0 = List·getD-eq-default l 0 out in absurd (omega arith))
 
-ahead-pick : (b : ℕ) (k : Why) (t : Bool) (a : Answer (ℕ × ℕ)) → ahead b (pick t (refused k) a) ≡ pick t (refused k) (ahead b a)
+ahead-pick : (b : ℕ) (k : Why) (t : Bool) (a : Answer (ℕ × ℕ)) → byteAhead b (pick t (refused k) a) ≡ pick t (refused k) (byteAhead b a)
 ahead-pick b k true a = refl
 ahead-pick b k false a = refl
 
@@ -93,7 +93,7 @@ module _ (k top : ℕ) (some : 0 < k) (b : ℕ) (l : List ℕ) (hi : 128 ≤ b) 
       ne-eqb (digits (take (run l + 1) l)) 0 (λ e. omega (arith, above-zero l z)) in
       rw (ne-eqb b 0 (λ e. omega arith), both-false (ltb 0 (run l)), v))
 
-  pub reading-step : reading (unsigned (suc k) top) (b ∷ l) ≡ ahead b (reading (unsigned k top) l)
+  pub reading-step : reading (unsigned (suc k) top) (b ∷ l) ≡ byteAhead b (reading (unsigned k top) l)
   unfolding reading digits
   reading-step =
       let j : suc (run l) + 1 ≡ suc (run l + 1) = omega arith in
@@ -139,16 +139,16 @@ module _ (left : ℕ) (some : 0 < left) (s : List ℕ) (at : ℕ) where
           (overrun-large (unsigned left 1) (sound left 1 some (omega arith)) s at (omega arith)
           (rw (bytes-from, run-high (getD s at 0) (drop (suc at) s) high) (omega arith)))
 
-      pub rest-ahead : 1 < left → {a : Answer (ℕ × ℕ)} → a ≡ read (unsigned (left - 1) 1) s (at + 1) → read (unsigned left 1) s at ≡ ahead (getD s at 0) a
+      pub rest-ahead : 1 < left → {a : Answer (ℕ × ℕ)} → a ≡ read (unsigned (left - 1) 1) s (at + 1) → read (unsigned left 1) s at ≡ byteAhead (getD s at 0) a
       rest-ahead h p =
           let rest = drop (suc at) s in
           let n : suc (left - 1) ≡ left = omega arith in
-          let q : reading (unsigned left 1) (getD s at 0 ∷ rest) ≡ ahead (getD s at 0) (reading (unsigned (left - 1) 1) rest) =
-          subst (λ (m : ℕ). reading (unsigned m 1) (getD s at 0 ∷ rest) ≡ ahead (getD s at 0) (reading (unsigned (left - 1) 1) rest)) n
+          let q : reading (unsigned left 1) (getD s at 0 ∷ rest) ≡ byteAhead (getD s at 0) (reading (unsigned (left - 1) 1) rest) =
+          subst (λ (m : ℕ). reading (unsigned m 1) (getD s at 0 ∷ rest) ≡ byteAhead (getD s at 0) (reading (unsigned (left - 1) 1) rest)) n
           (reading-step (left - 1) 1 (omega arith) (getD s at 0) rest high) in
           let d : read (unsigned (left - 1) 1) s (at + 1) ≡ reading (unsigned (left - 1) 1) rest =
           read-from (unsigned (left - 1) 1) s (at + 1) (omega arith) ∙ ap (λ (i : ℕ). reading (unsigned (left - 1) 1) (drop i s)) (add-one at) in
-          reading-from ∙ q ∙ ap (ahead (getD s at 0)) (sym (p ∙ d))
+          reading-from ∙ q ∙ ap (byteAhead (getD s at 0)) (sym (p ∙ d))
 
 pub reads-joins : (most : ℕ) (s : List ℕ) (at : ℕ) (a : Answer (ℕ × ℕ)) → 0 < most → most < 10 → Bytes s → a ≡ read (unsigned most 1) s at → Joins a
 reads-joins most s at (gives x) some few bytes p =
@@ -165,11 +165,11 @@ module _ (b : ℕ) {r : ReadU64} where
     pub joins-room : Joins (meansReadU64 r) → (v < 2 ^ 57) × (n .0 < 10)
     joins-room j = rw e at j
 
-    pub ahead-zero : v < 1 → ahead b (meansReadU64 r) ≡ refused (by 3)
+    pub ahead-zero : v < 1 → byteAhead b (meansReadU64 r) ≡ refused (by 3)
     ahead-zero z = rw (e, eq-eqb v 0 (omega arith))
 
-    pub ahead-number : 1 ≤ v → ahead b (meansReadU64 r) ≡ gives (b % 128 + 128 * v, n .0 + 1)
+    pub ahead-number : 1 ≤ v → byteAhead b (meansReadU64 r) ≡ gives (b % 128 + 128 * v, n .0 + 1)
     ahead-number z = rw (e, ne-eqb v 0 (λ q. omega arith))
 
-  pub ahead-case : {q : ReadU64} → r ≡ q → ahead b (meansReadU64 r) ≡ ahead b (meansReadU64 q)
+  pub ahead-case : {q : ReadU64} → r ≡ q → byteAhead b (meansReadU64 r) ≡ byteAhead b (meansReadU64 q)
   ahead-case e = rw e

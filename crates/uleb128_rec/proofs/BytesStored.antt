@@ -19,7 +19,7 @@ use Rattle.words.specs.declared.Written.the-variants.{Bytes}
 use Rattle.words.proofs.Lays.{fits-there}
 use Rattle.uleb128.specs.Unsigned.{form}
 use Rattle.uleb128.proofs.Forms.{form-small, form-large, form-some}
-use Rattle.uleb128_rec.specs.Inner.{WritesRest, Fits}
+use Rattle.uleb128_rec.specs.Inner.{WritesRest, RestFits}
 
 -- a store before a run of stores goes ahead of it
 set-ahead : (g s : List ℕ) (i j b : ℕ) → i < j → set (sets s j g) i b ≡ sets (set s i b) j g
@@ -42,11 +42,11 @@ module _ (v : ℕ) (s : List ℕ) (at : ℕ) where
             ∙ ap (λ (j : ℕ). sets (set s at (128 + v % 128)) j (form (v / 128))) (add-one at));
       }
 
-  module _ (left : ℕ) (k : Fits v s at left) where
+  module _ (left : ℕ) (k : RestFits v s at left) where
     pub fits-one : at < length s
     fits-one = omega (arith, k .room, form-some v)
 
-    pub fits-rest : 128 ≤ v → Fits (v / 128) s (at + 1) (left - 1)
+    pub fits-rest : 128 ≤ v → RestFits (v / 128) s (at + 1) (left - 1)
     fits-rest h =
         let n : length (form v) ≡ suc (length (form (v / 128))) = ap length (form-large v h) in
         record { few = omega (arith, k .few); room = omega (arith, k .room) }

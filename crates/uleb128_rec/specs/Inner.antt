@@ -1,9 +1,9 @@
 -- What the functions inside the crate ask and promise, over the bytes that are left.
 --
---   ahead b a                 the answer a with the byte b of 128 or more in front: no number is 0 behind another byte
+--   byteAhead b a             the answer a with the byte b of 128 or more in front: no number is 0 behind another byte
 --   Joins a                   a number that leaves room for seven bits more, or a refusal
 --   WritesRest v s at r out   the form of v is stored from the place of s on, r bytes, and leaves out
---   Fits v s at left          the form of v has at most left bytes, and they fit
+--   RestFits v s at left      the form of v has at most left bytes, and they fit
 use Prim.Native.Nat.{ℕ, _+_, _*_, _%_, _^_, _<_, _≤_}
 use mathlib.Core.List.{List}
 use mathlib.Core.Path.{_≡_}
@@ -13,9 +13,9 @@ use lib.Seq.{sets}
 use Rattle.words.specs.Answer.{pick, Answer, gives, refused, by}
 use Rattle.uleb128.specs.Unsigned.{form}
 
-abbrev pub ahead : ℕ → Answer (ℕ × ℕ) → Answer (ℕ × ℕ)
-ahead b (gives p) = pick (eqb (p .0) 0) (refused (by 3)) (gives (b % 128 + 128 * p .0, p .1 + 1))
-ahead b (refused k) = refused k
+abbrev pub byteAhead : ℕ → Answer (ℕ × ℕ) → Answer (ℕ × ℕ)
+byteAhead b (gives p) = pick (eqb (p .0) 0) (refused (by 3)) (gives (b % 128 + 128 * p .0, p .1 + 1))
+byteAhead b (refused k) = refused k
 
 abbrev pub Joins : Answer (ℕ × ℕ) → Type 0
 Joins (gives p) = (p .0 < 2 ^ 57) × (p .1 < 10)
@@ -25,6 +25,6 @@ pub record WritesRest (v : ℕ) (s : List ℕ) (at r : ℕ) (out : List ℕ) : T
   pub count : r ≡ length (form v)
   pub leaves : out ≡ sets s at (form v)
 
-pub record Fits (v : ℕ) (s : List ℕ) (at left : ℕ) : Type 0 where
+pub record RestFits (v : ℕ) (s : List ℕ) (at left : ℕ) : Type 0 where
   pub few : length (form v) ≤ left
   pub room : at + length (form v) ≤ length s

@@ -10,12 +10,12 @@ ghost use Rattle.groups.specs.Width.{Due};
 ghost use Rattle.uleb128.specs.Unsigned.{unsigned};
 ghost use Rattle.uleb128.specs.Promise.{meansReadU64, Reads64};
 ghost use Rattle.uleb128_rec.specs.Promise.{ReadsU64Rec};
-ghost use Rattle.uleb128_rec.specs.Inner.{Joins, ahead};
+ghost use Rattle.uleb128_rec.specs.Inner.{Joins, byteAhead};
 
 // A byte of 128 or more, in front of what was read behind it: no number is 0 behind another byte.
 fn behind(b: u8, read: ReadU64) -> ReadU64
     requires { ⌜ Joins (meansReadU64 read) ⌝ }
-    ensures { λ r. ⌜ Due (ahead b (meansReadU64 read)) (meansReadU64 r) ⌝ }
+    ensures { λ r. ⌜ Due (byteAhead b (meansReadU64 read)) (meansReadU64 r) ⌝ }
 {
     match read {
         ReadU64::Number(v, count) => {

@@ -7,11 +7,11 @@ use words::Refusal;
 use words::Written;
 use words::has_room;
 ghost use Rattle.uleb128_rec.specs.Promise.{WritesU64Rec};
-ghost use Rattle.uleb128_rec.specs.Inner.{WritesRest, Fits};
+ghost use Rattle.uleb128_rec.specs.Inner.{WritesRest, RestFits};
 
 // Stores the number's form of at most left bytes, which fits, the last byte first, and answers how many bytes it has.
 fn write_rest(v: u64, buffer: &mut [u8], at: usize, left: usize) -> usize
-    requires { ⌜ Fits v (now buffer) at left ⌝ }
+    requires { ⌜ RestFits v (now buffer) at left ⌝ }
     ensures { λ r. ⌜ WritesRest v (now (buffer .entry)) at r (now (buffer .exit)) ⌝ }
 {
     if v < 128 {

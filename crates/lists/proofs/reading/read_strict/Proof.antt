@@ -9,21 +9,21 @@ use Rattle.lists.proofs.reading.read_strict.Statement.{statement}
 use Rattle.lists.proofs.reading.read_strict.Tie as tie
 
 -- what a case of the first pass's answer says
-told : (c : tie.After-scan) {x : Scanned} → c .scan .result ≡ x → meansScanned x ≡ many (numbers (c .before .before .before .before .args .block .now))
-told c e = ap meansScanned (sym e) ∙ c .scan .ensures .is
+scanned : (c : tie.After-scan) {x : Scanned} → c .scan .result ≡ x → meansScanned x ≡ many (numbers (c .before .before .before .before .args .block .now))
+scanned c e = ap meansScanned (sym e) ∙ c .scan .ensures .is
 
 returns : tie.Need-returns
 returns c = block-too-long _ _ (c .if1 .taken)
 
 returns-2 : tie.Need-returns-2
-returns-2 c = slice-full _ _ (search needs) (told (c .before .before .before .before) (c .before .before .count .given .1)) (c .if2 .taken)
+returns-2 c = slice-full _ _ (search needs) (scanned (c .before .before .before .before) (c .before .before .count .given .1)) (c .if2 .taken)
 
 fill-requires : tie.Need-fill-requires
 fill-requires c κs =
-    slice-fits _ (search needs) (told (c .before .before .before .before .before) (c .before .before .before .count .given .1)) (c .before .if2 .left)
+    slice-fits _ (search needs) (scanned (c .before .before .before .before .before) (c .before .before .before .count .given .1)) (c .before .if2 .left)
 
 returns-4 : tie.Need-returns-4
-returns-4 c = block-faulty _ _ (search needs) (told (c .before .before .before) (c .before .refusal .given .1))
+returns-4 c = block-faulty _ _ (search needs) (scanned (c .before .before .before) (c .before .refusal .given .1))
 
 pub read-strict-spec : {M : Type 1} → statement M
 read-strict-spec =
