@@ -4,18 +4,19 @@
 --   none-passed                    at first, none
 --   one-passed                     a byte of 128 or more at the place is one more
 --   low-found, end-found           at a byte below 128, and at the end of the block, high is the length of the run from at on
---   front-is-start, low-is-start   the test for a start: true at place 0, behind it whether the byte before is below 128
+--   front-is-start, low-is-start   the test for a start: true at place 0, behind it whether the high bit of the byte before isn't set
 --   run-inside                     from a place of the block, a run ends within the block
 use Prim.Native.Nat.{ℕ, _+_, _-_, _≤_, _<_}
 use mathlib.Core.Path.{_≡_, sym}
 use mathlib.Core.List.{List}
-use mathlib.Core.Bool.{true}
+use mathlib.Core.Bool.{Bool, true, not}
 use native.Mathlib.Numerals.{add-one}
 use native.Mathlib.Omega.{arith}
-use borrow.Author.Tests.{eq-eqb, ne-eqb}
-use lib.Dec.{ltb}
+use borrow.Author.Tests.{lt-ltb, le-ltb, le-leb, lt-leb, eq-eqb, ne-eqb}
 use lib.ListN.{length, getD, drop, length-drop}
+use Rattle.words.proofs.Cases.{by-order}
 use Rattle.groups.specs.Group.{run}
+use Rattle.groups.specs.Macros.{isHigh8BitSet}
 use Rattle.groups.proofs.Run.{run-within, run-more, run-ends}
 use Rattle.groups.proofs.WalkLoop.{byte-at, byte-inside}
 use Rattle.blocks.specs.Block.{isStart}
@@ -49,9 +50,11 @@ module _ (s : List ℕ) (p : ℕ) where
   unfolding isStart
   front-is-start h = rw (eq-eqb p 0 (omega arith))
 
-  pub low-is-start : 1 ≤ p → ltb (getD s (p - 1) 0) 128 ≡ isStart s p
+  pub low-is-start : {r : Bool} → 1 ≤ p → r ≡ isHigh8BitSet (getD s (p - 1) 0) → not r ≡ isStart s p
   unfolding isStart
-  low-is-start h = rw (ne-eqb p 0 (λ e. omega arith))
+  low-is-start h e = rw (ne-eqb p 0 (λ q. omega arith), e) (by-order (getD s (p - 1) 0) 128
+      (λ l. rw (lt-leb 128 (getD s (p - 1) 0) l, lt-ltb (getD s (p - 1) 0) 128 l))
+      (λ l. rw (le-leb 128 (getD s (p - 1) 0) l, le-ltb (getD s (p - 1) 0) 128 l)))
 
 pub run-inside : (s : List ℕ) (p : ℕ) → p ≤ length s → p + run (drop p s) ≤ length s
 run-inside s p h = omega (arith, run-within (drop p s), length-drop p s)

@@ -1,4 +1,5 @@
 // Blocks: a run of groups and a tail. A cursor steps through it, a group at a time; set-down finds where to begin.
+use groups::is_high_8_bit_set;
 use sleb128::ReadI64;
 use sleb128::read_i64;
 use uleb128::ReadU64;
@@ -64,7 +65,8 @@ fn is_start(block: &[u8], at: usize) -> bool
     }
     let before = at - 1;
     let b = block[before];
-    b < 128
+    let more = is_high_8_bit_set(b);
+    !more
 }
 
 // How many bytes of 128 or more stand at the place.
@@ -76,7 +78,8 @@ fn high_run(block: &[u8], at: usize) -> usize
     let mut high = 0;
     while place < block.len() {
         let b = block[place];
-        if b < 128 {
+        let more = is_high_8_bit_set(b);
+        if !more {
             return high;
         }
         high += 1;

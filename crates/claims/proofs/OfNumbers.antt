@@ -4,7 +4,6 @@
 --   numbers     the chapter
 use Prim.Native.Nat.{ℕ, _-_, _^_, _<_}
 use mathlib.Core.Path.{_≡_, refl, ap, sym, _∙_}
-use mathlib.Core.Bool.{false}
 use mathlib.Core.List.{List, [], _∷_}
 use native.Mathlib.Nat.{lt-trans}
 use native.Mathlib.Omega.{arith}
@@ -16,7 +15,8 @@ use Rattle.words.specs.declared.Count.{Count}
 use Rattle.words.specs.declared.Written.{Written}
 use Rattle.words.proofs.Lays.{some-lays}
 use Rattle.words.proofs.OneMeaning.{same-lays}
-use Rattle.groups.specs.Form.{groups, spell, spellings}
+use Rattle.groups.specs.Macros.{takeLow7Bits, isHigh8BitSet, setHigh8Bit}
+use Rattle.groups.specs.Form.{spell, spellings, spelling}
 use Rattle.groups.specs.Promise.{walked}
 use Rattle.groups.specs.Group.{run, digits}
 use Rattle.groups.specs.Width.{runsOut, tooLarge, tooMany, reading, read}
@@ -111,8 +111,11 @@ numbers = record {
     number = λ why. (numberOf why, record { is = refl });
     room = λ size at n. (fits size at n, record { is = refl });
     walk = λ s at. (walked s at, record { is = refl });
-    spelled = λ v. (record { 0 = length (spell false 128 v) }, record { is = refl });
-    store = λ m below n s at. some-lays (groups below n m) s at;
+    low-bits = λ v. (takeLow7Bits v, refl);
+    high-bit = λ b. (isHigh8BitSet b, refl);
+    high-set = λ b. (setHigh8Bit b, refl);
+    spelled = λ v. (record { 0 = length (spelling v) }, record { is = refl });
+    store = λ v s at. some-lays (spelling v) s at;
     reply = some-reply;
     written = some-written;
     length = some-length;
@@ -121,8 +124,11 @@ numbers = record {
     number = λ why n m p q. p .is ∙ sym (q .is);
     room = λ size at n r r′ p q. p .is ∙ sym (q .is);
     walk = λ s at r r′ p q. p .is ∙ sym (q .is);
+    low-bits = λ v r r′ p q. p ∙ sym q;
+    high-bit = λ b r r′ p q. p ∙ sym q;
+    high-set = λ b r r′ p q. p ∙ sym q;
     spelled = λ v n m p q. ap (λ (x : ℕ). record { 0 = x }) (p .is ∙ sym (q .is));
-    store = λ m below n s at r r′ out out′ p q. same-lays p q;
+    store = λ v s at r r′ out out′ p q. same-lays p q;
     reply = λ k. one-reply k;
     written = λ k v s at r r′ out out′ p q. same-lays (lays-form k v p) (lays-form k v q);
     length = λ k v r r′ p q. ap (λ (n : ℕ). record { 0 = n }) (length-is k v r p ∙ sym (length-is k v r′ q));

@@ -8,7 +8,7 @@ use mathlib.Core.List.{List, [], _∷_, _++_}
 use mathlib.Core.Bool.{false}
 use mathlib.Core.Logic.{_↔_}
 use mathlib.Core.Option.{Option, some, none}
-use native.Mathlib.Nat.{mod-eq-of-lt, add-comm}
+use native.Mathlib.Nat.{mod-eq-of-lt}
 use native.Mathlib.Numerals.{add-one}
 use native.Mathlib.Omega.{arith}
 use borrow.Author.Tests.{lt-ltb, le-leb, lt-leb, eq-eqb, ne-eqb, ltb-true, leb-true}
@@ -20,6 +20,7 @@ use Rattle.words.proofs.OneMeaning.{apart}
 use Rattle.groups.specs.Begins.{Begins}
 use Rattle.groups.specs.Group.{Bytes}
 use Rattle.groups.specs.Width.{read}
+use Rattle.groups.proofs.HighBit.{set-seven}
 use Rattle.groups.proofs.Spelling.{Spelled, last, byte, spelled-short}
 use Rattle.uleb128.specs.Unsigned.{form, u64}
 use Rattle.uleb128.proofs.Forms.{form-small, form-large, form-spelled}
@@ -38,7 +39,7 @@ serialize-within (suc n) v h =
     (λ l. let q : v / 128 ≡ 0 = omega arith in rw (eq-eqb (v / 128) 0 q, specSerializeWithin) (rw (mod-eq-of-lt l) (sym (form-small v l))))
     (λ l.
     rw (ne-eqb (v / 128) 0 (λ e. omega arith), specSerializeWithin)
-    (rw (serialize-within n (v / 128) (omega arith)) (ap (λ (b : ℕ). b ∷ form (v / 128)) (add-comm (v % 128) 128) ∙ sym (form-large v l))))
+    (rw (serialize-within n (v / 128) (omega arith)) (ap (λ (b : ℕ). b ∷ form (v / 128)) (set-seven (v % 128) (omega arith)) ∙ sym (form-large v l))))
 
 pub serialize-same : (v : ℕ) → specSerializeHelper v ≡ form v
 unfolding specSerializeHelper

@@ -26,7 +26,8 @@ use Rattle.words.specs.declared.Written.{Written}
 use Rattle.words.specs.declared.Written.the-variants as W
 use Rattle.groups.specs.Begins.{Begins}
 use Rattle.groups.specs.Group.{Bytes, Group, digits}
-use Rattle.groups.specs.Promise.{Walks, Stores, SpelledLength}
+use Rattle.groups.specs.Promise.{Walks, Stores, SpelledLength, TakesLow7Bits, IsHigh8BitSet, SetsHigh8Bit}
+use Rattle.groups.specs.declared.Value.{Value as ByKind}
 use Rattle.groups.specs.Width.{read, tooMany}
 use Rattle.groups.specs.declared.Walked.{Walked}
 use Rattle.uleb128.specs.Unsigned as unsigned
@@ -139,8 +140,11 @@ pub record NumbersMet : Type 0 where
   pub number : (why : Refusal) → (n : ℕ) × Numbered why n
   pub room : (size at n : ℕ) → (r : Bool) × HasRoom size at n r
   pub walk : (s : List ℕ) (at : ℕ) → (r : Walked) × Walks s at r
-  pub spelled : (v : ℕ) → (n : Count) × SpelledLength v n
-  pub store : (m : ℕ) (below : Bool) (n : ℕ) (s : List ℕ) (at : ℕ) → (r : Written) × (out : List ℕ) × Stores m below n s at r out
+  pub low-bits : (v : ℕ) → (r : ℕ) × TakesLow7Bits v r
+  pub high-bit : (b : ℕ) → (r : Bool) × IsHigh8BitSet b r
+  pub high-set : (b : ℕ) → (r : ℕ) × SetsHigh8Bit b r
+  pub spelled : (v : ByKind) → (n : Count) × SpelledLength v n
+  pub store : (v : ByKind) (s : List ℕ) (at : ℕ) → (r : Written) × (out : List ℕ) × Stores v s at r out
   pub reply : (k : Kind) (s : List ℕ) (at : ℕ) → (r : Reply k) × ReadsAs k s at r
   pub written : (k : Kind) (v : Value k) (s : List ℕ) (at : ℕ) → (r : Written) × (out : List ℕ) × WritesAs k v s at r out
   pub length : (k : Kind) (v : Value k) → (n : Count) × TakesAs k v n
@@ -150,9 +154,12 @@ pub record NumbersOne : Type 0 where
   pub number : (why : Refusal) (n m : ℕ) → Numbered why n → Numbered why m → n ≡ m
   pub room : (size at n : ℕ) (r r′ : Bool) → HasRoom size at n r → HasRoom size at n r′ → r ≡ r′
   pub walk : (s : List ℕ) (at : ℕ) (r r′ : Walked) → Walks s at r → Walks s at r′ → r ≡ r′
-  pub spelled : (v : ℕ) (n m : Count) → SpelledLength v n → SpelledLength v m → n ≡ m
-  pub store : (m : ℕ) (below : Bool) (n : ℕ) (s : List ℕ) (at : ℕ) (r r′ : Written) (out out′ : List ℕ)
-      → Stores m below n s at r out → Stores m below n s at r′ out′ → (r ≡ r′) × (out ≡ out′)
+  pub low-bits : (v r r′ : ℕ) → TakesLow7Bits v r → TakesLow7Bits v r′ → r ≡ r′
+  pub high-bit : (b : ℕ) (r r′ : Bool) → IsHigh8BitSet b r → IsHigh8BitSet b r′ → r ≡ r′
+  pub high-set : (b r r′ : ℕ) → SetsHigh8Bit b r → SetsHigh8Bit b r′ → r ≡ r′
+  pub spelled : (v : ByKind) (n m : Count) → SpelledLength v n → SpelledLength v m → n ≡ m
+  pub store : (v : ByKind) (s : List ℕ) (at : ℕ) (r r′ : Written) (out out′ : List ℕ) → Stores v s at r out → Stores v s at r′ out′
+      → (r ≡ r′) × (out ≡ out′)
   pub reply : (k : Kind) (s : List ℕ) (at : ℕ) (r r′ : Reply k) → ReadsAs k s at r → ReadsAs k s at r′ → r ≡ r′
   pub written : (k : Kind) (v : Value k) (s : List ℕ) (at : ℕ) (r r′ : Written) (out out′ : List ℕ)
       → WritesAs k v s at r out → WritesAs k v s at r′ out′ → (r ≡ r′) × (out ≡ out′)

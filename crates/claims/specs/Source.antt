@@ -1,25 +1,16 @@
 -- `spec_parse` and `spec_serialize_helper` of the source (`leb128.rs`), ported as they stand, with division and remainder for its
 -- shifts and masks, and emptiness before the first byte. Numbers are those of `UInt`, u64.
 --
---   takeLow7Bits, isHigh8BitSet, setHigh8Bit, nBitMaxUnsigned   the source's macros of these names
+--   nBitMaxUnsigned         the source's macro `n_bit_max_unsigned!`; the others are in groups/specs/Macros.antt
 --   specParse               the count of bytes and the number, or none; `specParseMore`: with a byte in front
 --   specSerializeHelper    the bytes of a number; `specSerializeWithin`: the same, over a bound on how many there can be
-use Prim.Native.Nat.{ℕ, zero, suc, _+_, _-_, _*_, _/_, _%_, _^_}
+use Prim.Native.Nat.{ℕ, zero, suc, _+_, _-_, _*_, _/_, _^_}
 use mathlib.Core.List.{List, [], _∷_}
-use mathlib.Core.Bool.{Bool, true, false}
+use mathlib.Core.Bool.{true, false}
 use mathlib.Core.Option.{Option, some, none}
 use lib.Dec.{ltb, leb, eqb}
 use Rattle.words.specs.Answer.{pick, both}
-
--- `take_low_7_bits!`, `is_high_8_bit_set!`, `set_high_8_bit!`, `n_bit_max_unsigned!`
-abbrev pub takeLow7Bits : ℕ → ℕ
-takeLow7Bits v = v % 128
-
-abbrev pub isHigh8BitSet : ℕ → Bool
-isHigh8BitSet v = leb 128 v
-
-abbrev pub setHigh8Bit : ℕ → ℕ
-setHigh8Bit v = v + 128
+use Rattle.groups.specs.Macros.{takeLow7Bits, isHigh8BitSet, setHigh8Bit}
 
 abbrev pub nBitMaxUnsigned : ℕ → ℕ
 nBitMaxUnsigned n = 2 ^ n - 1

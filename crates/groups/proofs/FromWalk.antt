@@ -60,9 +60,9 @@ pub record Overrun (s : List ℕ) (at : ℕ) : Type 0 where
 
 abbrev pub WalkTells : List ℕ → ℕ → Walked → Type 0
 WalkTells s at Past = length s < at
-WalkTells s at (Open high) = Opening s at high
+WalkTells s at (Open high) = Opening s at (high .0)
 WalkTells s at Long = Overrun s at
-WalkTells s at (Closed sum weight high last) = Closing s at sum weight high last
+WalkTells s at (Closed sum weight high last) = Closing s at sum weight (high .0) last
 
 module _ (s : List ℕ) (at : ℕ) where
   told-from : at ≤ length s → WalkTells s at (walked s at)

@@ -7,3 +7,5 @@ pub mod Lookup
 pub mod Exact
 pub mod Stands
 pub mod StoreLoop
+pub mod SignedWords
+pub mod HighBit

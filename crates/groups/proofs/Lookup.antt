@@ -1,5 +1,6 @@
 -- The table of growth values: its rule, tested once over the whole table, and what looking a number up in it tells.
 --
+--   as-twice         a number spelled until what is left is below 64 takes as many bytes as twice the number, unsigned
 --   unsigned-some    some byte spells a number, unsigned,
 --   unsigned-short   and at most k + 1 do where it is below 128 to the k + 1
 --   growth           128 to the powers from 1 to 9: from each on, a number takes a byte more
@@ -7,17 +8,17 @@
 --   growth-passed    one not below it takes more than i + 1
 --   at-most-ten      a number of 64 bits takes ten at most,
 --   longest-length   and ten if it takes more than nine
-use Prim.Native.Nat.{ℕ, zero, suc, _+_, _*_, _^_, _≤_, _<_}
+use Prim.Native.Nat.{ℕ, zero, suc, _+_, _-_, _*_, _^_, _≤_, _<_}
 use mathlib.Core.Path.{_≡_, ap, _∙_}
 use mathlib.Core.List.{List, [], _∷_}
-use mathlib.Core.Bool.{false}
-use native.Mathlib.Nat.{pow-succ', add-zero}
+use mathlib.Core.Bool.{Bool, false}
+use native.Mathlib.Nat.{pow-succ', add-zero, le-antisymm}
 use native.Mathlib.Numerals.{add-one}
 use native.Mathlib.Omega.{arith}
 use lib.ListN.{length, getD}
+use Rattle.words.specs.Lays.{Takes}
 use Rattle.words.proofs.Cases.{by-order}
 use Rattle.groups.specs.Form.{spell}
-use Rattle.groups.specs.Promise.{SpelledLength}
 use Rattle.groups.proofs.Spelling.{Spelled, spelled, some-bytes, spelled-short, short-small}
 
 pow-more : (k : ℕ) → 128 ^ (k + 1) ≡ 128 * 128 ^ k
@@ -36,6 +37,19 @@ unsigned-long : (v k : ℕ) → 128 ^ (k + 1) ≤ v → k + 1 < length (spell fa
 unsigned-long v k h =
     by-order (k + 1) (length (spell false 128 v)) (λ l. l)
     (λ l. absurd (omega (arith, short-small (omega arith) k (unsigned-spelled v) (omega arith), pow-more k)))
+
+-- a spelling that one byte ends below a, of n, is no longer than one that ends below b, of m, where n is below the limits of m
+no-longer : {s t : Bool} {a b m n : ℕ} {g h : List ℕ} → a ≤ 128 → b ≤ 128 → Spelled s a n g → Spelled t b m h
+    → ((p : ℕ) → m < b * p → n < a * p) → length g ≤ length h
+no-longer {h = h} la lb p q f =
+    let k = length h - 1 in
+    omega (arith, some-bytes q, spelled-short la k p (f (128 ^ k) (short-small lb k q (omega (arith, some-bytes q)))))
+
+pub as-twice : (below : Bool) (m : ℕ) → length (spell below 64 m) ≡ length (spell false 128 (m * 2))
+as-twice below m =
+    let p = spelled below 64 (omega arith) m in
+    let q = unsigned-spelled (m * 2) in
+    le-antisymm (no-longer (omega arith) (omega arith) p q (λ x h. omega arith)) (no-longer (omega arith) (omega arith) q p (λ x h. omega arith))
 
 -- n values of f, from i on
 table : (ℕ → ℕ) → ℕ → ℕ → List ℕ
@@ -57,7 +71,7 @@ unfolding table
 growth-at i h = table-at (λ (k : ℕ). 128 ^ (k + 1)) 0 9 i h ∙ ap (λ (k : ℕ). 128 ^ (k + 1)) (omega arith)
 
 module _ (v i : ℕ) (few : i < 9) where
-  pub length-found : i < length (spell false 128 v) → v < getD growth i 0 → SpelledLength v (record { 0 = i + 1 })
+  pub length-found : i < length (spell false 128 v) → v < getD growth i 0 → Takes (spell false 128 v) (record { 0 = i + 1 })
   length-found h l = record { is = omega (arith, unsigned-short v i (rw (← (growth-at i few)) l)) }
 
   pub growth-passed : getD growth i 0 ≤ v → i + 1 < length (spell false 128 v)
@@ -66,5 +80,5 @@ module _ (v i : ℕ) (few : i < 9) where
 pub at-most-ten : (v : ℕ) → v < 2 ^ 64 → length (spell false 128 v) ≤ 10
 at-most-ten v h = unsigned-short v 9 (omega arith)
 
-pub longest-length : (v : ℕ) → v < 2 ^ 64 → 9 < length (spell false 128 v) → SpelledLength v (record { 0 = 10 })
+pub longest-length : (v : ℕ) → v < 2 ^ 64 → 9 < length (spell false 128 v) → Takes (spell false 128 v) (record { 0 = 10 })
 longest-length v f h = record { is = omega (arith, at-most-ten v f) }

@@ -17,6 +17,7 @@
 --   spelled-said                 says that number,
 --   spelled-as-groups            and is what `groups` gives for its length
 --   spelled-laid                 so where that is laid down, it is
+--   takes-some                   a length of a spelling is above 0
 --   spelled-short, short-small   it has at most k + 1 bytes exactly where the number is below small, times 128 to the k
 --   last-bounds                  the number is at least what the last byte says, times that byte's weight, and less than one more, times it
 --   last-small                   the last byte says less than small
@@ -28,7 +29,8 @@ use native.Mathlib.Nat.{mod-eq-of-lt, pow-succ', mul-assoc, mul-le-mul-left, mul
 use native.Mathlib.Omega.{arith}
 use borrow.Author.Tests.{lt-ltb, le-ltb}
 use lib.ListN.{length, getD}
-use Rattle.words.specs.Lays.{Lays}
+use Rattle.words.specs.Lays.{Lays, Takes}
+use Rattle.words.specs.declared.Count.{Count}
 use Rattle.words.specs.declared.Written.{Written}
 use Rattle.words.proofs.Cases.{by-order}
 use Rattle.groups.specs.Group.{run, Group, one, more, digits}
@@ -109,6 +111,9 @@ spelled-unique (byte p r) (byte q s) = rw (spelled-unique r s)
 pub some-bytes : {below : Bool} {small m : ℕ} {g : List ℕ} → Spelled below small m g → 0 < length g
 some-bytes (last p) = omega arith
 some-bytes (byte p r) = omega arith
+
+pub takes-some : (below : Bool) (small m : ℕ) {r : Count} → 0 < small → Takes (spell below small m) r → 0 < r .0
+takes-some below small m h p = omega (arith, p .is, some-bytes (spelled below small h m))
 
 grown : (below : Bool) (n m : ℕ) → 0 < n → groups below (suc n) m ≡ (128 + say below (m % 128)) ∷ groups below n (m / 128)
 unfolding groups

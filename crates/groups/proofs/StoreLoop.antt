@@ -1,9 +1,8 @@
 -- What the loop that stores a group holds, and that in the end the group is laid down.
 --
---   no-byte-laid                          bytes of count 0 are laid down in a buffer that is as it was
 --   Stored below more m s at out rest i   out is s with i bytes stored of the more + 1 that spell m; those that are left spell rest
 --   none-stored                           so it is with none stored, where there is room for all
---   one-stored                            so it is with one more stored, of 128 or more
+--   one-stored                            so it is with one more stored: what the lowest seven bits of the rest say, with the high bit set
 --   all-stored                            with the last one stored, all are laid down
 use Prim.Native.Nat.{ℕ, suc, _+_, _-_, _/_, _%_, _≤_, _<_}
 use mathlib.Core.Path.{_≡_, refl, ap, sym, _∙_}
@@ -19,18 +18,13 @@ use Rattle.words.specs.declared.Count.{Count}
 use Rattle.words.specs.declared.Written.the-variants.{Bytes}
 use Rattle.words.proofs.Lays.{fits-there}
 use Rattle.groups.specs.Form.{say, groups}
-use Rattle.groups.proofs.Spelling.{length-groups}
+use Rattle.groups.specs.Macros.{takeLow7Bits, setHigh8Bit}
+use Rattle.groups.proofs.HighBit.{set-seven}
+use Rattle.groups.proofs.Spelling.{length-groups, say-below}
 
 -- all of the bytes pasted are the bytes laid down
 pasted-all : (bytes s : List ℕ) (at n : ℕ) → n ≡ length bytes → paste s at bytes n ≡ take at s ++ bytes ++ drop (at + length bytes) s
 pasted-all bytes s at n e = rw (e, take-length bytes)
-
-pub no-byte-laid : (below : Bool) (m : ℕ) (s : List ℕ) (at : ℕ) (n : Count) → n .0 ≡ 0 → at ≤ length s
-    → Lays (groups below (n .0) m) s at (Bytes n) s
-no-byte-laid below m s at n e h =
-    let z : length (groups below (n .0) m) ≡ 0 = length-groups below (n .0) m ∙ e in
-    fits-there (groups below (n .0) m) s at n (rw z (omega arith)) (e ∙ sym z)
-    (paste-zero s at (groups below (n .0) m) ∙ pasted-all (groups below (n .0) m) s at 0 (sym z))
 
 -- i bytes of more + 1 are stored, and what is left of the group spells rest
 pub record Stored (below : Bool) (more m : ℕ) (s : List ℕ) (at : ℕ) (out : List ℕ) (rest i : ℕ) : Type 0 where
@@ -61,13 +55,18 @@ module _ (below : Bool) (more m : ℕ) (s : List ℕ) (at : ℕ) where
       rest-left : drop (i + 1) (groups below (suc more) m) ≡ l
       rest-left = sym (drop-drop 1 i (groups below (suc more) m)) ∙ ap (drop 1) bytes-left
 
-    pub one-stored : i < more → Stored below more m s at (set out (at + i) (128 + say below (rest % 128))) (rest / 128) (i + 1)
+    high-stored : i < more → Stored below more m s at (set out (at + i) (128 + say below (rest % 128))) (rest / 128) (i + 1)
     unfolding groups
-    one-stored h =
+    high-stored h =
         let k : more - i ≡ suc (more - (i + 1)) = omega arith in
         let e : groups below (suc (more - i)) rest ≡ (128 + say below (rest % 128)) ∷ groups below (suc (more - (i + 1))) (rest / 128) =
         rw k in
         record { room = g .room; few = omega arith; pasted = next-stored _ _ e ∙ rw add-one; left = rest-left _ _ e; kept = simp length-set (g .kept) }
+
+    pub one-stored : {bits said byte : ℕ} → i < more → bits ≡ takeLow7Bits rest → said ≡ say below bits → byte ≡ setHigh8Bit said
+        → Stored below more m s at (set out (at + i) byte) (rest / 128) (i + 1)
+    one-stored h p q r =
+        rw (r, q, p, set-seven (say below (rest % 128)) (say-below below (rest % 128) (omega arith))) (high-stored h)
 
     last-byte : more ≤ i → groups below (suc (more - i)) rest ≡ say below (rest % 128) ∷ []
     unfolding groups

@@ -77,7 +77,7 @@ module _ (s : List ℕ) (at : ℕ) where
             rw (digits-take (drop at s) high (byte-inside place high (g .here) there), byte-there, ← (g .sums), ← (g .weighs));
       }
 
-      pub walk-closes : getD s place 0 < 128 → Walks s at (Closed sum weight high (getD s place 0))
+      pub walk-closes : getD s place 0 < 128 → Walks s at (Closed sum weight (record { 0 = high }) (getD s place 0))
       unfolding walked walking
       walk-closes h =
           let e : run (drop at s) ≡ high = run-ends (drop at s) high (g .passed) (rw byte-there h) in
@@ -102,7 +102,7 @@ module _ (s : List ℕ) (at : ℕ) where
           run-more (drop at s) high (g .passed) (byte-inside place high (g .here) there) (rw byte-there h) in
           record { is = rw (le-ltb (length s) at (omega arith), le-leb 10 (run (drop at s)) (omega arith)) }
 
-    pub walk-runs-dry : length s ≤ place → Walks s at (Open high)
+    pub walk-runs-dry : length s ≤ place → Walks s at (Open (record { 0 = high }))
     unfolding walked walking
     walk-runs-dry h =
         let n : length (drop at s) ≡ high = length-drop at s ∙ omega arith in

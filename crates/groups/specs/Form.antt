@@ -4,10 +4,16 @@
 --   say below d           seven bits, or below zero their complement
 --   groups below n m      n bytes that spell m
 --   spell below small m   as many bytes as it takes until what is left is below small; `spellings`: the same, over a bound on how many there can be
+--   below v               v is below zero
+--   spelling n            the bytes of a number by its kind: unsigned until what is left is below 128, signed until it is below 64
 use Prim.Native.Nat.{ℕ, zero, suc, _+_, _-_, _/_, _%_}
 use mathlib.Core.List.{List, [], _∷_}
 use mathlib.Core.Bool.{Bool, true, false}
 use lib.Dec.{ltb}
+use lib.IntN.{ℤ, pos, negsuc}
+use lib.Signed.{mag}
+use Rattle.groups.specs.declared.Value.{Value}
+use Rattle.groups.specs.declared.Value.the-variants.{Unsigned, Signed}
 
 abbrev pub say : Bool → ℕ → ℕ
 say false d = d
@@ -26,3 +32,11 @@ spellings below small (suc n) m =
 
 unfoldable pub spell : Bool → ℕ → ℕ → List ℕ
 spell below small m = spellings below small m m
+
+abbrev pub below : ℤ → Bool
+below (pos n) = false
+below (negsuc n) = true
+
+abbrev pub spelling : Value → List ℕ
+spelling (Unsigned v) = spell false 128 v
+spelling (Signed v) = spell (below v) 64 (mag v)

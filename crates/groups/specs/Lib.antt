@@ -1,4 +1,5 @@
 pub mod Group
+pub mod Macros
 pub mod Width
 pub mod Form
 pub mod Begins

@@ -4,12 +4,13 @@
 --                                 high ones closed by one below 128, with what the high ones sum to and what the closing one weighs
 --   walking l                     the same of all the bytes l
 --   Walks s at r                  walking them answers r
---   SpelledLength v r             so many bytes spell v, unsigned
---   Stores m below n s at r out   n bytes that spell m are laid down at this place of s, or none
+--   SpelledLength n r             so many bytes spell the number n
+--   Stores n s at r out           the bytes that spell the number n are laid down at this place of s, or none
+--   TakesLow7Bits, IsHigh8BitSet, SetsHigh8Bit   the source's macros, as functions
 use Prim.Native.Nat.{ℕ, _^_}
 use mathlib.Core.List.{List}
 use mathlib.Core.Path.{_≡_}
-use mathlib.Core.Bool.{Bool, false}
+use mathlib.Core.Bool.{Bool}
 use lib.Dec.{leb, ltb, eqb}
 use lib.ListN.{length, getD, take, drop}
 use Rattle.words.specs.Answer.{pick}
@@ -17,15 +18,17 @@ use Rattle.words.specs.Lays.{Lays, Takes}
 use Rattle.words.specs.declared.Count.{Count}
 use Rattle.words.specs.declared.Written.{Written}
 use Rattle.groups.specs.Group.{run, digits}
-use Rattle.groups.specs.Form.{groups, spell}
+use Rattle.groups.specs.Form.{spelling}
+use Rattle.groups.specs.Macros.{takeLow7Bits, isHigh8BitSet, setHigh8Bit}
+use Rattle.groups.specs.declared.Value.{Value}
 use Rattle.groups.specs.declared.Walked.{Walked}
 use Rattle.groups.specs.declared.Walked.the-variants.{Past, Open, Long, Closed}
 
 unfoldable pub walking : List ℕ → Walked
 walking l =
     pick (leb 10 (run l)) Long
-    (pick (eqb (run l) (length l)) (Open (run l))
-    (Closed (digits (take (run l) l)) (128 ^ run l) (run l) (getD l (run l) 0)))
+    (pick (eqb (run l) (length l)) (Open (record { 0 = run l }))
+    (Closed (digits (take (run l) l)) (128 ^ run l) (record { 0 = run l }) (getD l (run l) 0)))
 
 unfoldable pub walked : List ℕ → ℕ → Walked
 walked s at = pick (ltb (length s) at) Past (walking (drop at s))
@@ -33,8 +36,17 @@ walked s at = pick (ltb (length s) at) Past (walking (drop at s))
 pub record Walks (s : List ℕ) (at : ℕ) (r : Walked) : Type 0 where
   pub is : r ≡ walked s at
 
-abbrev pub SpelledLength : ℕ → Count → Type 0
-SpelledLength v r = Takes (spell false 128 v) r
+abbrev pub SpelledLength : Value → Count → Type 0
+SpelledLength n r = Takes (spelling n) r
 
-abbrev pub Stores : ℕ → Bool → ℕ → List ℕ → ℕ → Written → List ℕ → Type 0
-Stores m below n s at r out = Lays (groups below n m) s at r out
+abbrev pub Stores : Value → List ℕ → ℕ → Written → List ℕ → Type 0
+Stores n s at r out = Lays (spelling n) s at r out
+
+abbrev pub TakesLow7Bits : ℕ → ℕ → Type 0
+TakesLow7Bits v r = r ≡ takeLow7Bits v
+
+abbrev pub IsHigh8BitSet : ℕ → Bool → Type 0
+IsHigh8BitSet b r = r ≡ isHigh8BitSet b
+
+abbrev pub SetsHigh8Bit : ℕ → ℕ → Type 0
+SetsHigh8Bit b r = r ≡ setHigh8Bit b

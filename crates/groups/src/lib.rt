@@ -1,18 +1,29 @@
 // A group of seven-bit bytes, whatever the width of the number: bytes of 128 or more and then one below. One loop walks it and one
 // lays it down, and readers and writers of every width stand on these two.
+mod bits;
 mod reading;
 mod writing;
 
+pub use bits::is_high_8_bit_set;
+pub use bits::set_high_8_bit;
+pub use bits::take_low_7_bits;
 pub use reading::walk;
+use words::Count;
 pub use writing::spelled_length;
 pub use writing::store;
+
+// A number and its kind, which decide the bytes that spell it.
+pub enum Value {
+    Unsigned(u64),
+    Signed(i64),
+}
 
 // How the bytes from a start go.
 pub enum Walked {
     // The start is past the end of the bytes.
     Past,
     // All the bytes, fewer than ten, are 128 or more.
-    Open(usize),
+    Open(Count),
     // Ten bytes of 128 or more.
     Long,
     // At most nine bytes of 128 or more and one below.
@@ -22,7 +33,7 @@ pub enum Walked {
         // What a bit of the last byte weighs.
         weight: u64,
         // How many are 128 or more.
-        high: usize,
+        high: Count,
         last: u8,
     },
 }

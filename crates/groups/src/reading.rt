@@ -1,16 +1,10 @@
 // Walking a group once from a start: readers of every width stand on this loop.
 use crate::Walked;
+use crate::bits::is_high_8_bit_set;
+use crate::bits::take_low_7_bits;
+use words::Count;
 use words::Place;
-ghost use mathlib.Core.Path.{_≡_};
-ghost use Prim.Native.Nat.{_%_};
 ghost use Rattle.groups.specs.Promise.{Walks};
-
-// The seven bits of value of a byte.
-fn low_bits(b: u8) -> u64
-    ensures { λ r. ⌜ r ≡ b % 128 ⌝ }
-{
-    (b % 128) as u64
-}
 
 // The loop of the source's `parse`: from the start through the first byte below 128, or through ten bytes, or to the end. Which
 // number that is, and whether it is refused, is for the width to say.
@@ -27,22 +21,24 @@ pub fn walk(bytes: &[u8], start: Place) -> Walked
     let mut weight: u64 = 1;
     while place < bytes.len() {
         let b = bytes[place];
-        if b < 128 {
+        let more = is_high_8_bit_set(b);
+        if !more {
             return Walked::Closed {
                 sum,
                 weight,
-                high,
+                high: Count(high),
                 last: b,
             };
         }
         if 8 < high {
             return Walked::Long;
         }
-        let part = weight * low_bits(b);
+        let bits = take_low_7_bits(b as u64);
+        let part = weight * (bits as u64);
         sum += part;
         weight *= 128;
         high += 1;
         place += 1;
     }
-    Walked::Open(high)
+    Walked::Open(Count(high))
 }

@@ -1,13 +1,19 @@
-// How many bytes spell a number, looked up; and the loop of the source's `serialize`, for every width, with the room known before the first
-// byte is stored.
+// How many bytes spell a number, looked up; and the loop of the source's `serialize`, for every kind, with the room known before the first
+// byte is stored. With m for v, or for -v-1 below zero, the seven bits of each byte are those of m, or below zero 127 less those of m.
+use crate::Value;
+use crate::bits::set_high_8_bit;
+use crate::bits::take_low_7_bits;
 use words::Count;
 use words::Place;
 use words::Refusal;
 use words::Written;
 use words::has_room;
 ghost use mathlib.Core.Path.{_≡_};
+ghost use mathlib.Core.Bool.{false};
 ghost use Prim.Native.Nat.{_<_};
-ghost use Rattle.groups.specs.Form.{say};
+ghost use lib.Signed.{mag};
+ghost use Rattle.words.specs.Lays.{Lays, Takes};
+ghost use Rattle.groups.specs.Form.{say, groups, spell, below as is-below};
 ghost use Rattle.groups.specs.Promise.{SpelledLength, Stores};
 
 // The values at which a 64-bit number grows by a byte.
@@ -23,9 +29,22 @@ const GROWTH: [u64; 9] = [
     9223372036854775808,
 ];
 
-// How many bytes spell the number, unsigned: 1 to 10, looked up.
-pub fn spelled_length(v: u64) -> Count
-    ensures { λ r. ⌜ SpelledLength v r ⌝ }
+fn below_zero(v: i64) -> bool
+    ensures { λ r. ⌜ r ≡ is-below v ⌝ }
+{
+    v < 0
+}
+
+// v, or -v-1 below zero.
+fn magnitude(v: i64) -> u64
+    ensures { λ r. ⌜ r ≡ mag v ⌝ }
+{
+    if v < 0 { (!v) as u64 } else { v as u64 }
+}
+
+// How many bytes an unsigned number takes, looked up.
+fn length_unsigned(v: u64) -> Count
+    ensures { λ r. ⌜ Takes (spell false 128 v) r ⌝ }
 {
     let mut i = 0;
     while i < 9 {
@@ -39,6 +58,26 @@ pub fn spelled_length(v: u64) -> Count
     Count(10)
 }
 
+// How many a signed one takes. It ends where what is left of m is below 64, so that the last byte's bit of weight 64 tells the sign: so
+// it is as long as twice its magnitude is unsigned.
+fn length_signed(v: i64) -> Count
+    ensures { λ r. ⌜ Takes (spell (is-below v) 64 (mag v)) r ⌝ }
+{
+    let m = magnitude(v);
+    let twice = m * 2;
+    length_unsigned(twice)
+}
+
+// How many bytes spell the number: 1 to 10.
+pub fn spelled_length(number: Value) -> Count
+    ensures { λ r. ⌜ SpelledLength number r ⌝ }
+{
+    match number {
+        Value::Unsigned(v) => length_unsigned(v),
+        Value::Signed(v) => length_signed(v),
+    }
+}
+
 // Seven bits as they are, or below zero their complement.
 fn said(bits: u8, below: bool) -> u8
     requires { ⌜ bits < 128 ⌝ }
@@ -47,9 +86,10 @@ fn said(bits: u8, below: bool) -> u8
     if below { 127 - bits } else { bits }
 }
 
-// Lays down count bytes that spell m (below zero: that spell -m-1 in two's complement), or none if they don't fit.
-pub fn store(m: u64, below: bool, count: Count, buffer: &mut [u8], place: Place) -> Written
-    ensures { λ r. ⌜ Stores m below (count .0) (now (buffer .entry)) (place .0) r (now (buffer .exit)) ⌝ }
+// Lays down count bytes, at least one, that spell m (below zero: that spell -m-1 in two's complement), or none if they don't fit.
+fn lay(m: u64, below: bool, count: Count, buffer: &mut [u8], place: Place) -> Written
+    requires { ⌜ 0 < count .0 ⌝ }
+    ensures { λ r. ⌜ Lays (groups below (count .0) m) (now (buffer .entry)) (place .0) r (now (buffer .exit)) ⌝ }
 {
     let at = place.0;
     let n = count.0;
@@ -57,23 +97,30 @@ pub fn store(m: u64, below: bool, count: Count, buffer: &mut [u8], place: Place)
     if !room {
         return Written::Refused(Refusal::NoRoom);
     }
-    if n < 1 {
-        return Written::Bytes(count);
-    }
     let more = n - 1;
     let mut rest = m;
     let mut i = 0;
     while i < more {
-        let bits = (rest % 128) as u8;
-        let byte = 128 + said(bits, below);
+        let bits = take_low_7_bits(rest);
+        let byte = set_high_8_bit(said(bits, below));
         let to = at + i;
         buffer[to] = byte;
         rest = rest / 128;
         i += 1;
     }
-    let bits = (rest % 128) as u8;
+    let bits = take_low_7_bits(rest);
     let byte = said(bits, below);
     let to = at + more;
     buffer[to] = byte;
     Written::Bytes(count)
+}
+
+// Lays down the bytes that spell the number and answers their count; else 5, and no byte is changed.
+pub fn store(number: Value, buffer: &mut [u8], place: Place) -> Written
+    ensures { λ r. ⌜ Stores number (now (buffer .entry)) (place .0) r (now (buffer .exit)) ⌝ }
+{
+    match number {
+        Value::Unsigned(v) => lay(v, false, length_unsigned(v), buffer, place),
+        Value::Signed(v) => lay(magnitude(v), below_zero(v), length_signed(v), buffer, place),
+    }
 }

@@ -1,15 +1,16 @@
 -- Laying a list's forms down one after another: what the loop holds, from what a writer of one number promises.
 --
---   LaidSoFar ns s at out to i   the forms of the first i numbers are laid down from the place at up to the place to
+--   LaidSoFar ns s at out n i    the forms of the first i numbers are laid down from the place at on, n bytes
 --   none-of-list                 at first, none
 --   room-next                    there is room for the form of the next number,
 --   one-of-list                  which, laid down, is one more
---   all-of-list                  behind the last number, all forms are laid down, with the count of the bytes between the two places
+--   all-of-list                  behind the last number, all forms are laid down, with their count of bytes
 --   list-too-long                a list of more numbers than the limit is refused by 7
 --   list-laid                    any other is written by laying its forms down
-use Prim.Native.Nat.{ℕ, _+_, _-_, _≤_, _<_}
+use Prim.Native.Nat.{ℕ, _+_, _≤_, _<_}
 use mathlib.Core.Path.{_≡_, refl, ap, sym, _∙_}
 use mathlib.Core.List.{List, []}
+use native.Mathlib.Nat.{add-zero}
 use native.Mathlib.Omega.{arith}
 use borrow.Author.Tests.{lt-ltb, le-ltb}
 use lib.ListN.{length, getD, drop}
@@ -25,39 +26,38 @@ use Rattle.lists.specs.Lists.{forms, listLimit}
 use Rattle.lists.specs.Promise.{WritesList}
 use Rattle.lists.proofs.TotalLoop.{forms-next, forms-end, length-next}
 
--- the forms of i numbers are laid down, up to the place to
-pub record LaidSoFar (ns s : List ℕ) (at : ℕ) (out : List ℕ) (to i : ℕ) : Type 0 where
+-- the forms of i numbers are laid down, n bytes
+pub record LaidSoFar (ns s : List ℕ) (at : ℕ) (out : List ℕ) (n i : ℕ) : Type 0 where
   pub within : i ≤ length ns
   pub kept : length out ≡ length s
-  pub behind : at ≤ to
-  pub ends : to + length (forms (drop i ns)) ≡ at + length (forms ns)
-  pub left : sets out to (forms (drop i ns)) ≡ sets s at (forms ns)
+  pub ends : n + length (forms (drop i ns)) ≡ length (forms ns)
+  pub left : sets out (at + n) (forms (drop i ns)) ≡ sets s at (forms ns)
 
 module _ (ns s : List ℕ) (at : ℕ) (room : at + length (forms ns) ≤ length s) where
-  pub none-of-list : LaidSoFar ns s at s at 0
-  none-of-list = record { within = omega arith; kept = refl; behind = omega arith; ends = refl; left = refl }
+  pub none-of-list : LaidSoFar ns s at s 0 0
+  none-of-list = record { within = omega arith; kept = refl; ends = omega arith; left = ap (λ (p : ℕ). sets s p (forms ns)) (add-zero at) }
 
-  module _ {out : List ℕ} {to i : ℕ} (g : LaidSoFar ns s at out to i) where
-    pub room-next : i < length ns → to + length (form (getD ns i 0)) ≤ length out
+  module _ {out : List ℕ} {n i : ℕ} (g : LaidSoFar ns s at out n i) where
+    pub room-next : i < length ns → at + n + length (form (getD ns i 0)) ≤ length out
     room-next h = omega (arith, g .ends, g .kept, length-next ns i h)
 
-    pub one-of-list : i < length ns → {after : List ℕ} {n : ℕ} → after ≡ sets out to (form (getD ns i 0)) → n ≡ length (form (getD ns i 0))
-        → LaidSoFar ns s at after (to + n) (i + 1)
-    one-of-list h {after} {n} e f =
+    pub one-of-list : i < length ns → {after : List ℕ} {k : ℕ} → after ≡ sets out (at + n) (form (getD ns i 0)) → k ≡ length (form (getD ns i 0))
+        → LaidSoFar ns s at after (n + k) (i + 1)
+    one-of-list h {after} {k} e f =
+        let p : at + (n + length (form (getD ns i 0))) ≡ at + n + length (form (getD ns i 0)) = omega arith in
         record {
           within = omega arith;
-          kept = ap length e ∙ length-sets out to (form (getD ns i 0)) ∙ g .kept;
-          behind = omega (arith, g .behind);
+          kept = ap length e ∙ length-sets out (at + n) (form (getD ns i 0)) ∙ g .kept;
           ends = omega (arith, g .ends, length-next ns i h);
           left =
-              rw (e, f) (sym (sets-append (form (getD ns i 0)) (forms (drop (i + 1) ns)) out to)
-              ∙ ap (sets out to) (sym (forms-next ns i h)) ∙ g .left);
+              rw (e, f, p) (sym (sets-append (form (getD ns i 0)) (forms (drop (i + 1) ns)) out (at + n))
+              ∙ ap (sets out (at + n)) (sym (forms-next ns i h)) ∙ g .left);
         }
 
-    pub all-of-list : length ns ≤ i → (n : Count) → n .0 ≡ to - at → Lays (forms ns) s at (Bytes n) out
-    all-of-list h n e =
+    pub all-of-list : length ns ≤ i → (count : Count) → count .0 ≡ n → Lays (forms ns) s at (Bytes count) out
+    all-of-list h count e =
         let z : forms (drop i ns) ≡ [] = forms-end ns i (g .within) h in
-        fits-there (forms ns) s at n room (omega (arith, g .ends, g .behind, ap length z))
+        fits-there (forms ns) s at count room (omega (arith, g .ends, ap length z))
         ((rw z at (g .left)) ∙ sets-eq (forms ns) s at room)
 
 module _ (ns s : List ℕ) (at : ℕ) where

@@ -38,14 +38,15 @@ fn lay(numbers: &[u64], buffer: &mut [u8], at: usize) -> Written
     requires { ⌜ at + length (forms (now numbers)) ≤ length (now buffer) ⌝ }
     ensures { λ r. ⌜ Lays (forms (now (numbers .entry))) (now (buffer .entry)) at r (now (buffer .exit)) ⌝ }
 {
-    let mut to = at;
+    let mut total: usize = 0;
     let mut i: usize = 0;
     while i < numbers.len() {
         let v = numbers[i];
+        let to = at + total;
         match write_u64(v, buffer, Place(to)) {
             Written::Bytes(count) => {
                 let n = count.0;
-                to += n;
+                total += n;
                 i += 1;
             }
             Written::Refused(refusal) => {
@@ -53,7 +54,6 @@ fn lay(numbers: &[u64], buffer: &mut [u8], at: usize) -> Written
             }
         }
     }
-    let total = to - at;
     Written::Bytes(Count(total))
 }
 

@@ -1,4 +1,3 @@
-pub mod Bits
 pub mod ClosingRows
 pub mod Widths
 pub mod SignedGroups

@@ -17,13 +17,14 @@ use lib.Signed.{mag}
 use Rattle.words.specs.Answer.{gives}
 use Rattle.words.proofs.Cases.{by-order}
 use Rattle.groups.specs.Group.{Bytes, Group, run}
+use Rattle.groups.specs.Form.{below}
 use Rattle.groups.specs.Width.{read, tooLarge, tooMany}
 use Rattle.groups.specs.Begins.{Begins}
 use Rattle.groups.proofs.Run.{at-run}
 use Rattle.groups.proofs.Spelling.{said, said-digits, spelled-group, spelled-said, last-small, group-bounds, complements}
 use Rattle.groups.proofs.Exact.{accepts, accepted, group-length}
 use Rattle.groups.proofs.Stands.{read-stands, form-read, read-form}
-use Rattle.sleb128.specs.Signed.{below, form, twos, i64}
+use Rattle.sleb128.specs.Signed.{form, twos, i64}
 use Rattle.sleb128.proofs.Forms.{form-spelled}
 use Rattle.sleb128.proofs.Widths.{sound, spells, pow-seven, half-seven}
 

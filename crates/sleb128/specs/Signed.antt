@@ -1,6 +1,5 @@
 -- Document 01, "How a number is spelled": signed numbers, as DWARF 5 has them.
 --
---   below v      v is below zero
 --   signed b m   m, or -m-1 if b: the number whose magnitude `mag` is m
 --   twos k n     the value of the 7k bits of n in two's complement
 --   form v       the shortest form: seven bits a byte of v's two's complement, until the byte's bit of weight 64 tells the sign
@@ -11,22 +10,18 @@ use mathlib.Core.Bool.{Bool, true, false}
 use lib.Dec.{leb, ltb, eqb}
 use lib.IntN.{ℤ, pos, negsuc, subℕ}
 use lib.ListN.{length}
-use lib.Signed.{mag}
 use Rattle.words.specs.Answer.{pick, both, either}
 use Rattle.groups.specs.Group.{digits}
-use Rattle.groups.specs.Form.{spell}
+use Rattle.groups.specs.Form.{spelling}
+use Rattle.groups.specs.declared.Value.the-variants.{Signed}
 use Rattle.groups.specs.Width.{Width}
-
-abbrev pub below : ℤ → Bool
-below (pos n) = false
-below (negsuc n) = true
 
 abbrev pub signed : Bool → ℕ → ℤ
 signed false m = pos m
 signed true m = negsuc m
 
 unfoldable pub form : ℤ → List ℕ
-form v = spell (below v) 64 (mag v)
+form v = spelling (Signed v)
 
 unfoldable pub twos : ℕ → ℕ → ℤ
 twos k n = pick (ltb n (2 ^ (7 * k - 1))) (pos n) (subℕ n (2 ^ (7 * k)))

@@ -57,9 +57,10 @@ pub fn read_i64(bytes: &[u8], start: Place) -> ReadI64
         Walked::Closed {
             sum,
             weight,
-            high,
+            high: count,
             last,
         } => {
+            let high = count.0;
             if last < 64 {
                 return closed(sum, weight, high, last, false);
             }

@@ -4,19 +4,22 @@
 --   form-small, form-large   one byte v below 128; else (v mod 128) + 128, and then the form of v div 128
 --   form-some                a form has some byte
 --   form-short               a form has at most k + 1 bytes where its number is below 128 to the k + 1
---   form-takes               what is promised of its spelling's length is promised of its own
+--   form-takes               what is promised of its spelling's length is promised of its own,
+--   form-stored              and so it is where the spelling is laid down
 use Prim.Native.Nat.{ℕ, _+_, _/_, _%_, _^_, _≤_, _<_}
 use mathlib.Core.Path.{_≡_}
-use mathlib.Core.List.{[], _∷_}
+use mathlib.Core.List.{List, [], _∷_}
 use mathlib.Core.Bool.{false}
 use native.Mathlib.Omega.{arith}
 use lib.ListN.{length}
 use Rattle.words.specs.declared.Count.{Count}
-use Rattle.groups.specs.Promise.{SpelledLength}
+use Rattle.words.specs.declared.Written.{Written}
+use Rattle.groups.specs.Promise.{SpelledLength, Stores}
+use Rattle.groups.specs.declared.Value.the-variants.{Unsigned}
 use Rattle.groups.proofs.Spelling.{Spelled, last, byte, spelled, some-bytes, spelled-unique}
 use Rattle.groups.proofs.Lookup.{unsigned-short}
 use Rattle.uleb128.specs.Unsigned.{form}
-use Rattle.uleb128.specs.Promise.{LengthU64}
+use Rattle.uleb128.specs.Promise.{LengthU64, WritesU64}
 
 pub form-spelled : (v : ℕ) → Spelled false 128 v (form v)
 unfolding form
@@ -35,6 +38,10 @@ pub form-short : (v k : ℕ) → v < 128 ^ (k + 1) → length (form v) ≤ k + 1
 unfolding form
 form-short v k h = unsigned-short v k h
 
-pub form-takes : (v : ℕ) {r : Count} → SpelledLength v r → LengthU64 v r
+pub form-takes : (v : ℕ) {r : Count} → SpelledLength (Unsigned v) r → LengthU64 v r
 unfolding form
 form-takes v p = p
+
+pub form-stored : (v : ℕ) {s out : List ℕ} {at : ℕ} {r : Written} → Stores (Unsigned v) s at r out → WritesU64 v s at r out
+unfolding form
+form-stored v p = p

@@ -5,14 +5,14 @@
 --   u64, u32            the two widths
 use Prim.Native.Nat.{ℕ}
 use mathlib.Core.List.{List}
-use mathlib.Core.Bool.{false}
 use lib.Dec.{leb, eqb}
 use Rattle.groups.specs.Group.{digits}
-use Rattle.groups.specs.Form.{spell}
+use Rattle.groups.specs.Form.{spelling}
+use Rattle.groups.specs.declared.Value.the-variants.{Unsigned}
 use Rattle.groups.specs.Width.{Width}
 
 unfoldable pub form : ℕ → List ℕ
-form v = spell false 128 v
+form v = spelling (Unsigned v)
 
 -- a last byte 0 that isn't the first byte is one too many
 abbrev pub unsigned : ℕ → ℕ → Width ℕ

@@ -29,7 +29,8 @@ fn read_width(bytes: &[u8], start: Place, most: usize, top: u8) -> ReadU64
 {
     match walk(bytes, start) {
         Walked::Past => ReadU64::Refused(Refusal::Place),
-        Walked::Open(high) => {
+        Walked::Open(count) => {
+            let high = count.0;
             if high < most {
                 return ReadU64::Refused(Refusal::End);
             }
@@ -39,9 +40,10 @@ fn read_width(bytes: &[u8], start: Place, most: usize, top: u8) -> ReadU64
         Walked::Closed {
             sum,
             weight,
-            high,
+            high: count,
             last,
         } => {
+            let high = count.0;
             if most <= high {
                 return ReadU64::Refused(Refusal::Overflow);
             }

@@ -1,5 +1,6 @@
 // The length of a number's form, and the writer. A number's form is the same at 64 and at 32 bits. They are a port of
 // secure-foundations/vest, `leb128.rs`, `length` and `serialize` (NOTICE), mended at zero.
+use groups::Value;
 use groups::spelled_length;
 use groups::store;
 use words::Count;
@@ -11,7 +12,7 @@ ghost use Rattle.uleb128.specs.Promise.{LengthU64, LengthU32, WritesU64,
 pub fn length_u64(v: u64) -> Count
     ensures { λ r. ⌜ LengthU64 v r ⌝ }
 {
-    spelled_length(v)
+    spelled_length(Value::Unsigned(v))
 }
 
 // How many bytes the number takes: 1 to 5.
@@ -25,7 +26,7 @@ pub fn length_u32(v: u32) -> Count
 pub fn write_u64(v: u64, buffer: &mut [u8], place: Place) -> Written
     ensures { λ r. ⌜ WritesU64 v (now (buffer .entry)) (place .0) r (now (buffer .exit)) ⌝ }
 {
-    store(v, false, length_u64(v), buffer, place)
+    store(Value::Unsigned(v), buffer, place)
 }
 
 // The same for a number of 32 bits.

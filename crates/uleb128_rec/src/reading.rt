@@ -1,5 +1,7 @@
 // Reading by recursion: it goes on at the next place, and the bytes still allowed fall at each call. It is a port of
 // secure-foundations/vest, `leb128-rec.rs`, `exec_parse_rec_helper` (NOTICE).
+use groups::is_high_8_bit_set;
+use groups::take_low_7_bits;
 use uleb128::ReadU64;
 use words::Count;
 use words::Place;
@@ -22,7 +24,8 @@ fn behind(b: u8, read: ReadU64) -> ReadU64
             if v < 1 {
                 return ReadU64::Refused(Refusal::NotShortest);
             }
-            let low = (b % 128) as u64;
+            let bits = take_low_7_bits(b as u64);
+            let low = bits as u64;
             let up = 128 * v;
             let whole = low + up;
             let more = count.0;
@@ -42,7 +45,8 @@ fn read_rest(bytes: &[u8], at: usize, left: usize) -> ReadU64
         return ReadU64::Refused(Refusal::End);
     }
     let b = bytes[at];
-    if b < 128 {
+    let high = is_high_8_bit_set(b);
+    if !high {
         let v = b as u64;
         if 1 < left {
             return ReadU64::Number(v, Count(1));

@@ -1,5 +1,7 @@
 // Writing by recursion: it goes on at v div 128, and the bytes still allowed fall at each call. It is a port of
 // secure-foundations/vest, `leb128-rec.rs`, `exec_serialize_rec_helper` (NOTICE).
+use groups::set_high_8_bit;
+use groups::take_low_7_bits;
 use uleb128::length_u64;
 use words::Count;
 use words::Place;
@@ -14,17 +16,16 @@ fn write_rest(v: u64, buffer: &mut [u8], at: usize, left: usize) -> usize
     requires { ⌜ RestFits v (now buffer) at left ⌝ }
     ensures { λ r. ⌜ WritesRest v (now (buffer .entry)) at r (now (buffer .exit)) ⌝ }
 {
-    if v < 128 {
-        let byte = v as u8;
-        buffer[at] = byte;
+    let low = take_low_7_bits(v);
+    let up = v / 128;
+    if up < 1 {
+        buffer[at] = low;
         return 1;
     }
     let next = at + 1;
     let fewer = left - 1;
-    let up = v / 128;
     let more = write_rest(up, buffer, next, fewer);
-    let low = (v % 128) as u8;
-    let byte = 128 + low;
+    let byte = set_high_8_bit(low);
     buffer[at] = byte;
     more + 1
 }

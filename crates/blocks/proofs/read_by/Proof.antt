@@ -2,7 +2,7 @@
 use borrow.Author.Needs.{needs}
 use Rattle.uleb128.specs.Promise.{meansReadU64}
 use Rattle.sleb128.specs.Promise.{meansReadI64}
-use Rattle.sleb128.proofs.Bits.{word-back}
+use Rattle.groups.proofs.SignedWords.{word-back}
 use Rattle.blocks.specs.Block.{unsigned, signed}
 use Rattle.blocks.proofs.GroupReading.{valued-as}
 use Rattle.blocks.proofs.read_by.Statement.{statement}

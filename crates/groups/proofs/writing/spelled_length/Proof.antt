@@ -1,34 +1,14 @@
--- `groups::spelled_length` meets its promise: more bytes than growth values passed, until one is larger than the number.
-use Prim.Native.Nat.{_-_, _<_}
-use mathlib.Core.Bool.{false}
-use native.Mathlib.Omega.{arith}
+-- `groups::spelled_length` meets its promise: by the number's kind, what the two lookups promise.
 use borrow.Author.Needs.{needs}
-use lib.ListN.{length}
-use Rattle.groups.specs.Form.{spell}
-use Rattle.groups.proofs.Lookup.{unsigned-some, length-found, growth-passed, longest-length}
+use Rattle.groups.proofs.SignedWords.{length-back}
 use Rattle.groups.proofs.writing.spelled_length.Statement.{statement}
 use Rattle.groups.proofs.writing.spelled_length.Tie as tie
 
-abbrev Inv-loop : tie.InvT-loop
-Inv-loop v i₀ i = i < length (spell false 128 v)
+returns : tie.Need-returns
+returns c = rw (c .before .before .number .given .1) (c .length-unsigned .ensures)
 
-abbrev μ-loop : tie.MeasureT-loop
-μ-loop v i₀ i = 9 - i
-
-loop-holds : tie.Need-loop-holds Inv-loop μ-loop
-loop-holds c = unsigned-some _
-
-returns : tie.Need-returns Inv-loop μ-loop
-returns c = length-found _ _ (search needs) (c .before .before .loop .inv) (c .if1 .taken)
-
-loop-again : tie.Need-loop-again Inv-loop μ-loop
-loop-again c = growth-passed _ _ (search needs) (c .if1 .left)
-
-returns-2 : tie.Need-returns-2 Inv-loop μ-loop
-returns-2 c = longest-length _ (search needs) (omega arith)
+returns-2 : tie.Need-returns-2
+returns-2 c = rw (c .before .before .number2 .given .1) (length-back (c .before .before .number2 .given .0 .0) (c .before .known-told2 .given .0 .1) (c .length-signed .ensures))
 
 pub spelled-length-spec : {M : Type 1} → statement M
-spelled-length-spec =
-    tie.close
-    (tie.spec Inv-loop μ-loop loop-holds (λ c. search needs) (λ c. search needs) (λ c. search needs) returns
-    (λ c. search needs) loop-again returns-2)
+spelled-length-spec = tie.close (tie.spec (λ c. search needs) (λ c κs. search needs) (λ c. search needs) (λ c κs. search needs) returns returns-2)

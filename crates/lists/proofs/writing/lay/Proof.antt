@@ -11,10 +11,10 @@ use Rattle.lists.proofs.writing.lay.Statement.{statement}
 use Rattle.lists.proofs.writing.lay.Tie as tie
 
 abbrev Inv-loop : tie.InvT-loop
-Inv-loop numbers buffer₀ at to₀ i₀ buffer to i = LaidSoFar numbers buffer₀ at buffer to i
+Inv-loop numbers buffer₀ at total₀ i₀ buffer total i = LaidSoFar numbers buffer₀ at buffer total i
 
 abbrev μ-loop : tie.MeasureT-loop
-μ-loop numbers buffer₀ at to₀ i₀ buffer to i = length numbers - i
+μ-loop numbers buffer₀ at total₀ i₀ buffer total i = length numbers - i
 
 -- where a number was written, and the loop's head before it
 abbrev wrote : tie.After-known-told Inv-loop μ-loop → tie.After-write-u64 Inv-loop μ-loop
@@ -27,12 +27,12 @@ abbrev entry : tie.After-write-u64 Inv-loop μ-loop → tie.Start Inv-loop μ-lo
 entry w = head w .before .before .before
 
 there : (w : tie.After-write-u64 Inv-loop μ-loop)
-    → head w .loop .to + length (form (getD (entry w .args .numbers .now) (head w .loop .i) 0)) ≤ length (head w .loop .buffer)
+    → entry w .args .at + head w .loop .total + length (form (getD (entry w .args .numbers .now) (head w .loop .i) 0)) ≤ length (head w .loop .buffer)
 there w = room-next _ _ _ (entry w .pre) (head w .loop .inv) (w .before .before .before .loop-test .taken)
 
 again : (c : tie.After-known-told Inv-loop μ-loop)
     → LaidSoFar (entry (wrote c) .args .numbers .now) (entry (wrote c) .args .buffer .now) (entry (wrote c) .args .at)
-    (wrote c .write-u64 .last .1 .0) (head (wrote c) .loop .to + c .before .count .given .0 .0 .0) (head (wrote c) .loop .i + 1)
+    (wrote c .write-u64 .last .1 .0) (head (wrote c) .loop .total + c .before .count .given .0 .0 .0) (head (wrote c) .loop .i + 1)
 again c =
     let w = wrote c in
     one-of-list _ _ _ (entry w .pre) (head w .loop .inv) (w .before .before .before .loop-test .taken)
@@ -42,7 +42,12 @@ loop-holds : tie.Need-loop-holds Inv-loop μ-loop
 loop-holds c = none-of-list _ _ _ (c .before .before .pre)
 
 add-to : tie.Need-add-to Inv-loop μ-loop
-add-to c = omega (arith, again c .ends, entry (wrote c) .pre)
+add-to c =
+    let h = c .before .before in
+    omega (arith, h .loop .inv .ends, h .before .before .before .pre)
+
+add-total : tie.Need-add-total Inv-loop μ-loop
+add-total c = omega (arith, again c .ends, entry (wrote c) .pre)
 
 loop-again : tie.Need-loop-again Inv-loop μ-loop
 loop-again c = again c
@@ -63,6 +68,6 @@ returns-2 c = all-of-list _ _ _ (c .before .before .before .before .pre) (c .bef
 pub lay-spec : {M : Type 1} → statement M
 lay-spec =
     tie.close
-    (tie.spec Inv-loop μ-loop loop-holds (λ c. search needs) (λ c. search needs) (λ c κs. search needs)
-    (λ c. search needs) add-to (λ c. search needs) (λ c. search needs) loop-again (λ c. search needs) same-length
-    returns (λ c. search needs) (λ c. search needs) returns-2)
+    (tie.spec Inv-loop μ-loop loop-holds (λ c. search needs) (λ c. search needs) add-to (λ c κs. search needs)
+    (λ c. search needs) add-total (λ c. search needs) (λ c. search needs) loop-again (λ c. search needs) same-length
+    returns (λ c. search needs) returns-2)

@@ -3,7 +3,7 @@ use Prim.Native.Nat.{_+_, _*_, _^_, _<_}
 use native.Mathlib.Omega.{arith}
 use borrow.Author.Needs.{needs}
 use Rattle.groups.proofs.Rows.{due-kept}
-use Rattle.sleb128.proofs.Bits.{word-back}
+use Rattle.groups.proofs.SignedWords.{word-back}
 use Rattle.sleb128.proofs.ClosingRows.{closing-large, closing-number, closing-one, closing-many, closing-last, closing-fits, low-fits}
 use Rattle.sleb128.proofs.reading.closed.Statement.{statement}
 use Rattle.sleb128.proofs.reading.closed.Tie as tie

@@ -16,7 +16,7 @@ start c = c .before .before .before .before
 -- the walk came to a byte below 128
 closing : (c : tie.After-sum)
     → Closing (now (start c .args .bytes)) (start c .args .start .0) (c .sum .given .0 .0) (c .sum .given .0 .1 .0)
-    (c .sum .given .0 .1 .1 .0) (c .sum .given .0 .1 .1 .1 .0)
+    (c .sum .given .0 .1 .1 .0 .0) (c .sum .given .0 .1 .1 .1 .0)
 closing c = walk-tells _ _ (c .before .before .walk .ensures) (c .sum .given .1)
 
 closed-requires : tie.Need-closed-requires

@@ -1,6 +1,6 @@
 -- `sleb128::signed` keeps what it promises inside the crate.
 use borrow.Author.Needs.{needs}
-use Rattle.sleb128.proofs.Bits.{complement, above}
+use Rattle.groups.proofs.SignedWords.{complement, above}
 use Rattle.sleb128.proofs.reading.signed.Statement.{statement}
 use Rattle.sleb128.proofs.reading.signed.Tie as tie
 

@@ -16,18 +16,18 @@ start c = c .before .before .before .before
 -- the walk came to a byte below 128
 closing : (c : tie.After-sum)
     → Closing (now (start c .args .bytes)) (start c .args .start .0) (c .sum .given .0 .0) (c .sum .given .0 .1 .0)
-    (c .sum .given .0 .1 .1 .0) (c .sum .given .0 .1 .1 .1 .0)
+    (c .sum .given .0 .1 .1 .0 .0) (c .sum .given .0 .1 .1 .1 .0)
 closing c = walk-tells _ _ (c .before .before .walk .ensures) (c .sum .given .1)
 
-fits : (c : tie.After-sum) → c .sum .given .0 .1 .1 .0 < start c .args .most
-    → (c .sum .given .0 .1 .1 .0 + 1 ≡ start c .args .most → c .sum .given .0 .1 .1 .1 .0 ≤ start c .args .top)
-    → (c .sum .given .0 .0 + c .sum .given .0 .1 .0 * c .sum .given .0 .1 .1 .1 .0 < 2 ^ 64) × (c .sum .given .0 .1 .1 .0 < 10)
+fits : (c : tie.After-sum) → c .sum .given .0 .1 .1 .0 .0 < start c .args .most
+    → (c .sum .given .0 .1 .1 .0 .0 + 1 ≡ start c .args .most → c .sum .given .0 .1 .1 .1 .0 ≤ start c .args .top)
+    → (c .sum .given .0 .0 + c .sum .given .0 .1 .0 * c .sum .given .0 .1 .1 .1 .0 < 2 ^ 64) × (c .sum .given .0 .1 .1 .0 .0 < 10)
 fits c m l = (number-fits _ _ (start c .pre) _ _ (closing c) m l, closing c .few)
 
 returns : tie.Need-returns
 returns c =
     says-end _ _ (search needs) _ _
-    (walk-tells _ _ (c .before .before .before .before .walk .ensures) (c .before .before .high .given .1)) (c .if1 .taken)
+    (walk-tells _ _ (c .before .before .before .before .walk .ensures) (c .before .before .count .given .1)) (c .if1 .taken)
 
 returns-2 : tie.Need-returns-2
 returns-2 c =
@@ -69,7 +69,7 @@ returns-7 c = says-past _ _ (search needs) _ _ (walk-tells _ _ (c .before .befor
 
 returns-8 : tie.Need-returns-8
 returns-8 c =
-    let q = walk-tells _ _ (c .before .before .before .before .walk .ensures) (c .before .before .high .given .1) in
+    let q = walk-tells _ _ (c .before .before .before .before .walk .ensures) (c .before .before .count .given .1) in
     says-overrun _ _ (search needs) _ _ (q .here) (omega (arith, q .many))
 
 returns-9 : tie.Need-returns-9

@@ -2,15 +2,17 @@
 -- of `ByteInFront`.
 use Prim.Native.Nat.{ℕ, _<_}
 use native.Mathlib.Omega.{arith}
-use borrow.Author.Needs.{needs}
+use borrow.Author.Needs.{needs, fits-under}
 use borrow.Fn.Kinds.{In}
 use borrow.Fn.PlainCycle.{Measures, is, falls, and}
+use Rattle.groups.proofs.HighBit.{bit-clear, bit-set}
 use Rattle.groups.proofs.Rows.{due-passed}
 use Rattle.uleb128_rec.proofs.ByteInFront.{rest-end, rest-last, rest-large, rest-overrun, rest-ahead, reads-joins}
 use Rattle.uleb128_rec.proofs.reading.+read_rest.{statement}
 use Rattle.uleb128_rec.proofs.reading.read_rest.Reads as read-rest
 use Rattle.uleb128_rec.proofs.reading.read_rest.Kinds as read-rest-kinds
 use Rattle.uleb128_rec.proofs.reading.+read_rest.Lts-read_rest as lts
+use Rattle.groups.proofs.is_high_8_bit_set.Reads as is-high-reads
 use Rattle.uleb128_rec.proofs.reading.behind.Reads as behind-reads
 use Rattle.uleb128_rec.proofs.reading.+read_rest.Tie.{close}
 
@@ -21,7 +23,14 @@ abbrev given : ℕ → In 1 read-rest-kinds.ps
 given t = and 1 read-rest-kinds.ps (is 1 read-rest-kinds.ps μ t) read-rest.Pre
 
 abbrev env : ℕ → lts.Claims
-env t = (and 1 read-rest-kinds.ps (falls 1 read-rest-kinds.ps _<_ μ t) read-rest.Pre, read-rest.Post, behind-reads.Asked, behind-reads.Learnt)
+env t = (
+  is-high-reads.Asked,
+  is-high-reads.Learnt,
+  and 1 read-rest-kinds.ps (falls 1 read-rest-kinds.ps _<_ μ t) read-rest.Pre,
+  read-rest.Post,
+  behind-reads.Asked,
+  behind-reads.Learnt,
+)
 
 module _ (t : ℕ) where
   returns : lts.Need-returns (env t) (given t) read-rest.Post
@@ -31,19 +40,19 @@ module _ (t : ℕ) where
   shared-slice-read-b c = search needs
 
   cast-v : lts.Need-cast-v (env t) (given t) read-rest.Post
-  cast-v c = search needs
+  cast-v c = fits-under _ _ 128 (bit-clear (c .before .is-high-8-bit-set .ensures) (c .if2 .taken)) tt
 
   returns-2 : lts.Need-returns-2 (env t) (given t) read-rest.Post
-  returns-2 c = rest-last _ (search needs) _ _ (search needs) (c .before .if2 .taken) (λ l. absurd (omega arith))
+  returns-2 c = rest-last _ (search needs) _ _ (search needs) (bit-clear (c .before .before .is-high-8-bit-set .ensures) (c .before .if2 .taken)) (λ l. absurd (omega arith))
 
   returns-3 : lts.Need-returns-3 (env t) (given t) read-rest.Post
-  returns-3 c = rest-large _ (search needs) _ _ (search needs) (c .before .before .if2 .taken) (omega arith) (c .if4 .taken)
+  returns-3 c = rest-large _ (search needs) _ _ (search needs) (bit-clear (c .before .before .before .is-high-8-bit-set .ensures) (c .before .before .if2 .taken)) (omega arith) (c .if4 .taken)
 
   returns-4 : lts.Need-returns-4 (env t) (given t) read-rest.Post
-  returns-4 c = rest-last _ (search needs) _ _ (search needs) (c .before .before .if2 .taken) (λ l. c .if4 .left)
+  returns-4 c = rest-last _ (search needs) _ _ (search needs) (bit-clear (c .before .before .before .is-high-8-bit-set .ensures) (c .before .before .if2 .taken)) (λ l. c .if4 .left)
 
   returns-5 : lts.Need-returns-5 (env t) (given t) read-rest.Post
-  returns-5 c = rest-overrun _ (search needs) _ _ (search needs) (c .before .if2 .left) (c .if5 .taken)
+  returns-5 c = rest-overrun _ (search needs) _ _ (search needs) (bit-set (c .before .before .is-high-8-bit-set .ensures) (c .before .if2 .left)) (c .if5 .taken)
 
   add-next : lts.Need-add-next (env t) (given t) read-rest.Post
   add-next c = search needs
@@ -52,17 +61,18 @@ module _ (t : ℕ) where
   sub-fewer c = search needs
 
   read-rest-requires : lts.Need-read-rest-requires (env t) (given t) read-rest.Post
-  read-rest-requires c κs = omega (arith, c .before .before .before .before .before .pre)
+  read-rest-requires c κs = omega (arith, c .before .before .before .before .before .before .pre)
 
   behind-requires : lts.Need-behind-requires (env t) (given t) read-rest.Post
   behind-requires c κs =
       reads-joins _ _ _ _ (search needs) (search needs)
-      (λ i. c .before .before .before .before .before .shared-slice-known .given i .fits) (c .read-rest .ensures .is)
+      (λ i. c .before .before .before .before .before .before .shared-slice-known .given i .fits) (c .read-rest .ensures .is)
 
   returns-6 : lts.Need-returns-6 (env t) (given t) read-rest.Post
   returns-6 c =
       due-passed
-      (rest-ahead _ (search needs) _ _ (search needs) (c .before .before .before .if2 .left) (search needs) (c .before .read-rest .ensures .is))
+      (rest-ahead _ (search needs) _ _ (search needs)
+      (bit-set (c .before .before .before .before .is-high-8-bit-set .ensures) (c .before .before .before .if2 .left)) (search needs) (c .before .read-rest .ensures .is))
       (c .behind .ensures)
 
   closed : {M : Type 1} → lts.Closed (env t) (given t) read-rest.Post M
@@ -70,6 +80,7 @@ module _ (t : ℕ) where
       lts.spec (env t) (given t) read-rest.Post
       returns
       shared-slice-read-b
+      (λ c κs. search needs)
       cast-v
       returns-2
       returns-3

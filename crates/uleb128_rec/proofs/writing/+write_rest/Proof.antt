@@ -7,6 +7,8 @@ use borrow.Fn.Kinds.{In}
 use borrow.Fn.PlainCycle.{Measures, is, falls, and}
 use lib.ListN.{length-set}
 use Rattle.uleb128_rec.proofs.BytesStored.{last-stored, front-stored, fits-one, fits-rest, fits-some, fits-count}
+use Rattle.groups.proofs.set_high_8_bit.Reads as set-high-reads
+use Rattle.groups.proofs.take_low_7_bits.Reads as take-low-reads
 use Rattle.uleb128_rec.proofs.writing.+write_rest.{statement}
 use Rattle.uleb128_rec.proofs.writing.write_rest.Reads as write-rest
 use Rattle.uleb128_rec.proofs.writing.write_rest.Kinds as write-rest-kinds
@@ -20,67 +22,64 @@ abbrev given : ℕ → In 1 write-rest-kinds.ps
 given t = and 1 write-rest-kinds.ps (is 1 write-rest-kinds.ps μ t) write-rest.Pre
 
 abbrev env : ℕ → lts.Claims
-env t = (and 1 write-rest-kinds.ps (falls 1 write-rest-kinds.ps _<_ μ t) write-rest.Pre, write-rest.Post)
+env t = (
+  take-low-reads.Asked,
+  take-low-reads.Learnt,
+  and 1 write-rest-kinds.ps (falls 1 write-rest-kinds.ps _<_ μ t) write-rest.Pre,
+  write-rest.Post,
+  set-high-reads.Asked,
+  set-high-reads.Learnt,
+)
 
 module _ (t : ℕ) where
-  cast-byte : lts.Need-cast-byte (env t) (given t) write-rest.Post
-  cast-byte c = search needs
-
   slice-write-buffer : lts.Need-slice-write-buffer (env t) (given t) write-rest.Post
-  slice-write-buffer c = fits-one _ _ _ _ (c .before .before .pre .1)
-
-  same-length : lts.Need-same-length (env t) (given t) write-rest.Post
-  same-length c = search needs
+  slice-write-buffer c = fits-one _ _ _ _ (c .before .before .before .pre .1)
 
   returns : lts.Need-returns (env t) (given t) write-rest.Post
-  returns c = last-stored _ _ _ (c .if1 .taken)
+  returns c = last-stored _ _ _ (c .if1 .taken) (c .before .take-low-7-bits .ensures)
 
   add-next : lts.Need-add-next (env t) (given t) write-rest.Post
-  add-next c = omega (arith, fits-one _ _ _ _ (c .before .before .pre .1))
+  add-next c = omega (arith, fits-one _ _ _ _ (c .before .before .before .pre .1))
 
   sub-fewer : lts.Need-sub-fewer (env t) (given t) write-rest.Post
-  sub-fewer c = fits-some _ _ _ _ (c .before .before .pre .1)
+  sub-fewer c = fits-some _ _ _ _ (c .before .before .before .pre .1)
 
   write-rest-requires : lts.Need-write-rest-requires (env t) (given t) write-rest.Post
   write-rest-requires c κs =
-      let k = c .before .before .before .pre .1 in
-      (omega (arith, c .before .before .before .pre .0, fits-some _ _ _ _ k), fits-rest _ _ _ _ k (c .before .if1 .left))
+      let asked = c .before .before .before .before .pre in
+      (omega (arith, asked .0, fits-some _ _ _ _ (asked .1)), fits-rest _ _ _ _ (asked .1) (c .before .if1 .left))
 
-  cast-low : lts.Need-cast-low (env t) (given t) write-rest.Post
-  cast-low c = search needs
-
-  add-byte : lts.Need-add-byte (env t) (given t) write-rest.Post
-  add-byte c = search needs
+  -- past the call: the test before it, and what was asked
+  abbrev tested : lts.After-set-high-8-bit (env t) (given t) write-rest.Post → lts.Else1 (env t) (given t) write-rest.Post
+  tested c = c .before .before .before .before .before
 
   slice-write-buffer-2 : lts.Need-slice-write-buffer-2 (env t) (given t) write-rest.Post
-  slice-write-buffer-2 c = omega (arith, fits-one _ _ _ _ (c .before .before .before .before .before .before .pre .1), c .before .before .write-rest .kept .1 .0)
+  slice-write-buffer-2 c = omega (arith, fits-one _ _ _ _ (tested c .before .before .before .pre .1), c .before .before .before .write-rest .kept .1 .0)
 
   add-result : lts.Need-add-result (env t) (given t) write-rest.Post
   add-result c =
-      omega (
-        arith,
-        c .before .before .before .before .before .before .fits .left,
-        fits-count _ _ _ _ (c .before .before .before .before .before .before .pre .1) (c .before .before .before .before .if1 .left) (c .before .before .write-rest .ensures),
-      )
+      let asked = tested c .before .before .before in
+      omega (arith, asked .fits .left, fits-count _ _ _ _ (asked .pre .1) (tested c .if1 .left) (c .before .before .before .write-rest .ensures))
 
   same-length-2 : lts.Need-same-length-2 (env t) (given t) write-rest.Post
-  same-length-2 c = simp length-set (c .before .before .write-rest .kept .1 .0)
+  same-length-2 c = simp length-set (c .before .before .before .write-rest .kept .1 .0)
 
   returns-2 : lts.Need-returns-2 (env t) (given t) write-rest.Post
-  returns-2 c = front-stored _ _ _ (c .before .before .before .before .if1 .left) (c .before .before .write-rest .ensures)
+  returns-2 c =
+      front-stored _ _ _ (tested c .if1 .left) (tested c .before .take-low-7-bits .ensures) (c .set-high-8-bit .ensures)
+      (c .before .before .before .write-rest .ensures)
 
   closed : {M : Type 1} → lts.Closed (env t) (given t) write-rest.Post M
   closed =
       lts.spec (env t) (given t) write-rest.Post
-      cast-byte
+      (λ c κs. search needs)
       slice-write-buffer
-      same-length
+      (λ c. search needs)
       returns
       add-next
       sub-fewer
       write-rest-requires
-      cast-low
-      add-byte
+      (λ c κs. search needs)
       slice-write-buffer-2
       add-result
       same-length-2

@@ -1,7 +1,7 @@
--- `sleb128::magnitude` keeps what it promises inside the crate: both casts are of a number that isn't below zero.
-use Rattle.sleb128.proofs.Bits.{magnitude-below, magnitude-above}
-use Rattle.sleb128.proofs.writing.magnitude.Statement.{statement}
-use Rattle.sleb128.proofs.writing.magnitude.Tie as tie
+-- `groups::magnitude` keeps what it promises inside the crate: both casts are of a number that isn't below zero.
+use Rattle.groups.proofs.SignedWords.{magnitude-below, magnitude-above}
+use Rattle.groups.proofs.writing.magnitude.Statement.{statement}
+use Rattle.groups.proofs.writing.magnitude.Tie as tie
 
 cast-result : tie.Need-cast-result
 cast-result c = let m = magnitude-below _ (c .before .fits .v) (c .if1 .taken) in (m .positive, m .fits)
