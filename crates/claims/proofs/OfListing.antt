@@ -9,12 +9,13 @@ use Rattle.texts.proofs.Decimals.{decimal-small, decimal-large}
 use Rattle.listing.specs.Promise.{meansListing, asked, fronted}
 use Rattle.listing.proofs.OneNext.{same-next}
 use Rattle.claims.specs.OfListing.{OfListing}
-use Rattle.claims.proofs.Text.{gives-text, front-enough, text-document, some-line}
+use Rattle.claims.proofs.Text.{gives-text, text-long, front-enough, text-document, some-line}
 
 pub listing : OfListing
 listing = record {
   digits = λ v. (decimal-small v, decimal-large v);
   listing = gives-text;
+  listing-too-long = text-long;
   listing-front = front-enough;
   listing-document = text-document;
   met = record {

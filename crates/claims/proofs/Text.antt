@@ -1,5 +1,6 @@
 -- The lines that are given one after another are the text, for every input.
 --
+--   text-long       an input above the limit has the text `refused 7`, one line without header
 --   front-enough    the first bytes of an input, one more than the limit, have its text
 --   gives-text      from the top on, the lines that are given are exactly the text
 --   text-document   the text of document 01's 17 bytes, of the mended ones, and of no bytes
@@ -14,7 +15,7 @@ use lib.Seq.{take-all, length-take-le, take-append-seam}
 use Rattle.words.specs.declared.Count.{Count}
 use Rattle.words.specs.declared.Refusal.the-variants.{NoRoom}
 use Rattle.words.proofs.Cases.{by-order}
-use Rattle.texts.specs.Texts.{ascii, decimal, decimalWithin}
+use Rattle.texts.specs.Texts.{decimal, decimalWithin}
 use Rattle.groups.specs.Group.{Bytes, run, digits}
 use Rattle.groups.specs.Width.{runsOut, tooLarge, tooMany, reading}
 use Rattle.blocks.specs.Block.{blockLimit}
@@ -35,7 +36,7 @@ use Rattle.listing.proofs.Lines as Lines
 use Rattle.listing.proofs.TextLeft as Left
 use Rattle.listing.proofs.TextLeft.{Fine, left, rank, next-left}
 use Rattle.listing.proofs.LineGiven.{line-given, no-text-left}
-use Rattle.claims.specs.OfListing.{LinesGiven, none, more, GivesText, FrontEnough, Document}
+use Rattle.claims.specs.OfListing.{LinesGiven, none, more, GivesText, AboveLimit, FrontEnough, Document}
 
 module _ (s : List ℕ) where
   given-left : (g : Listing) (t : List ℕ) → Fine s (meansListing g) → LinesGiven s g t → t ≡ left s (meansListing g)
@@ -81,7 +82,7 @@ given s (suc fuel) g h fine = goes-on s g (next s g) refl (next-left s g fine) (
 ends : (s : List ℕ) → LinesGiven s L.Top (text s)
 ends s = given s (length s + 3) top (omega arith) tt
 
-text-long : (s : List ℕ) → blockLimit < length s → text s ≡ ascii "refused 7\n"
+pub text-long : AboveLimit
 unfolding text
 text-long s h = rw (lt-ltb blockLimit (length s) h)
 

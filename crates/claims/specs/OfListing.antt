@@ -4,6 +4,7 @@
 --   LinesGiven s g t         from the listing g of s on, the lines that are given one after another are t: each is put into a buffer that has room for
 --                            a line, until there is none
 --   GivesText                from the top on they are exactly the text, for every input, and so they end
+--   AboveLimit               an input above the limit has the text `refused 7`, one line without header
 --   FrontEnough              the first bytes of an input, one more than the limit, have its text
 --   Document                 the text of document 01's 17 bytes, of the mended ones, and of no bytes
 --   ListingMet, ListingOne   an answer meets each promise, and no second
@@ -35,6 +36,9 @@ pub data LinesGiven (s : List ℕ) : Listing → List ℕ → Type 0 where
 abbrev pub GivesText : Type 0
 GivesText = (s t : List ℕ) → LinesGiven s L.Top t ↔ (t ≡ text s)
 
+abbrev pub AboveLimit : Type 0
+AboveLimit = (s : List ℕ) → blockLimit < length s → text s ≡ ascii "refused 7\n"
+
 abbrev pub FrontEnough : Type 0
 FrontEnough = (s : List ℕ) → text (take (blockLimit + 1) s) ≡ text s
 
@@ -59,6 +63,7 @@ pub record ListingOne : Type 0 where
 pub record OfListing : Type 0 where
   pub digits : Digits
   pub listing : GivesText
+  pub listing-too-long : AboveLimit
   pub listing-front : FrontEnough
   pub listing-document : Document
   pub met : ListingMet
