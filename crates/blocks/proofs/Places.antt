@@ -4,21 +4,22 @@
 --   from-early    where the first group is placed at n or later, all begin at n or later
 --   less-placed   groups placed from n + p on, their places less n, are placed from p on
 --   begins-from   what begins at n or later, for n behind a part and at most just past the next byte below 128, is the groups behind that byte
+--   high-from     no group begins where no byte below 128 follows, or later
 --   from-placed   what begins at a start or later is the groups from there on
 use Prim.Native.Nat.{ℕ, _+_, _-_, _≤_, _<_}
 use mathlib.Core.Path.{_≡_, refl, ap, sym, _∙_}
-use mathlib.Core.List.{List, [], _∷_, _++_}
+use mathlib.Core.List.{List, [], _∷_, _++_, append-nil}
 use mathlib.Core.Logic.{⊎-elim}
 use native.Mathlib.Omega.{arith}
 use borrow.Author.Tests.{le-leb, lt-leb}
-use lib.ListN.{length, getD, take, drop, length-append, take-append-drop}
+use lib.ListN.{length, getD, take, drop, length-append, length-take, take-append-drop}
 use lib.Seq.{length-take-le, drop-append-add, drop-drop, getD-drop}
 use Rattle.words.proofs.Cases.{by-order}
 use Rattle.groups.specs.Group.{run}
 use Rattle.groups.proofs.Run.{run-within, run-ends}
 use Rattle.blocks.specs.GroupsAndTail.{cut, Start}
 use Rattle.blocks.specs.Places.{placed, listed, ending, from, less}
-use Rattle.blocks.proofs.Cut.{cut-group, cut-tail, cut-append, total, all-bytes, Longer, tail-run, longer-than-tail, drop-all}
+use Rattle.blocks.proofs.Cut.{cut-group, cut-tail, cut-append, total, all-bytes, Longer, Some, some-each, tail-run, longer-than-tail, drop-all}
 
 -- no group that begins past n ends before it, and none that is long enough to pass it
 past : (n p : ℕ) (gs : List (List ℕ)) → n < p → ending 0 n (placed p gs) ≡ []
@@ -82,6 +83,26 @@ begins-from a b n behind there =
     none-low h =
         let r : run (t ++ b) ≡ length (t ++ b) = rw length-append (omega (arith, tail-run a b, run-within b)) in
         rw (cut-tail (t ++ b) r, drop-all b h) refl
+
+-- no group begins where the last one ends, or later
+none-past : (n p : ℕ) (gs : List (List ℕ)) → Some gs → p + total gs ≤ n → from n (placed p gs) ≡ []
+none-past n p [] k h = refl
+none-past n p (g ∷ gs) k h = rw (lt-leb n p (omega (arith, k .0))) (none-past n (p + length g) gs (k .1) (omega arith))
+
+-- bytes of 128 or more at the end of a block make no group
+high-listed : (a b : List ℕ) → length b ≤ run b → listed (a ++ b) ≡ listed a
+high-listed a b h =
+    let t = cut a .tail in
+    let r : run (t ++ b) ≡ length (t ++ b) = rw length-append (omega (arith, tail-run a b, run-within b)) in
+    let gs : cut (a ++ b) .groups ≡ cut a .groups = cut-append a b ∙ rw (cut-tail (t ++ b) r) (append-nil (cut a .groups)) in
+    ap (placed 0) gs
+
+pub high-from : (s : List ℕ) (n : ℕ) → length (drop n s) ≤ run (drop n s) → from n (listed s) ≡ []
+high-from s n h =
+    let a = take n s in
+    ap (λ (l : List ℕ). from n (listed l)) (sym (take-append-drop n s))
+    ∙ ap (from n) (high-listed a (drop n s) h)
+    ∙ none-past n 0 (cut a .groups) (some-each a) (omega (arith, all-bytes a, length-take n s))
 
 pub from-placed : (s : List ℕ) (p : ℕ) → Start s p → from p (listed s) ≡ placed p (cut (drop p s) .groups)
 from-placed s p k =

@@ -6,6 +6,7 @@
 --   before, behind       damage-front, damage-back: in the block 05 80 07 03 the stretch 80 is replaced by nothing
 --   old, new             both are blocks, so that damage-front-read and damage-back-read speak of them
 --   set-down, lost       reader-set-down, front-lost: at place 1 of 05 06, and of 05 06 07 whose first byte is lost
+--   no-start, no-byte    and where set-down refuses: 05 80 and 05, whose first byte is lost
 use Prim.Native.Nat.{ℕ, zero, suc, _+_, _<_}
 use mathlib.Core.Path.{_≡_, refl}
 use mathlib.Core.List.{List, [], _∷_, _++_}
@@ -15,6 +16,7 @@ use lib.ListN.{length, drop}
 use Rattle.words.specs.Answer.{gives}
 use Rattle.words.specs.Lays.{writing, laid}
 use Rattle.words.specs.declared.Count.{Count}
+use Rattle.words.specs.declared.Refusal.the-variants.{Place, NoStart}
 use Rattle.words.specs.declared.Written.the-variants as W
 use Rattle.groups.specs.Form.{spell, spellings}
 use Rattle.groups.specs.Group.{Bytes, Group, one, run, digits}
@@ -113,3 +115,11 @@ module _ where
   lost : SetsDown (drop 1 (5 ∷ 6 ∷ 7 ∷ [])) 1 (D.At (cursor 1))
   unfolding settingDown run
   lost = record { is = refl }
+
+  no-start : SetsDown (drop 1 (5 ∷ 0x80 ∷ [])) 1 (D.Refused NoStart)
+  unfolding settingDown run
+  no-start = record { is = refl }
+
+  no-byte : SetsDown (drop 1 (5 ∷ [])) 1 (D.Refused Place)
+  unfolding settingDown run
+  no-byte = record { is = refl }

@@ -2,16 +2,19 @@
 --
 --   Front, Back           where groups stand, and what a step answers there
 --   FrontRead, BackRead   what a reader gives of the whole block: the readings in each of the two parts are the same list
---   FrontLost             what a reader gives of a copy whose front is lost
+--   CopyRefused           what holds where a copy whose front is lost is refused
+--   FrontLost             what a reader gives of such a copy, or why it is refused
 --   OfDamage              all of it
 use Prim.Native.Nat.{ℕ, _+_, _≤_, _<_}
 use mathlib.Core.Path.{_≡_}
-use mathlib.Core.List.{List, _++_}
+use mathlib.Core.List.{List, [], _++_}
 use mathlib.Core.Logic.{_↔_}
 use lib.ListN.{length, drop}
 use Rattle.words.specs.Answer.{Answer}
-use Rattle.groups.specs.Group.{run, Bytes}
-use Rattle.blocks.specs.Block.{Val, saysBy}
+use Rattle.words.specs.declared.Refusal.{Refusal}
+use Rattle.words.specs.declared.Refusal.the-variants.{Place, TooLong, NoStart}
+use Rattle.groups.specs.Group.{run, Bytes, High}
+use Rattle.blocks.specs.Block.{Val, saysBy, blockLimit}
 use Rattle.blocks.specs.Promise.{meansStep, Steps, SetsDown}
 use Rattle.blocks.specs.GroupsAndTail.{GroupAt}
 use Rattle.blocks.specs.Places.{ending, from, less, listed}
@@ -52,12 +55,20 @@ BackRead = (a x y b : List ℕ) (f f′ : ℕ → Rule) (l l′ : List (ℕ × �
     → less (length (a ++ x) + run b + 1) (from (length (a ++ x) + run b + 1) l)
     ≡ less (length (a ++ y) + run b + 1) (from (length (a ++ y) + run b + 1) l′)
 
+-- A copy without the original's first k bytes is refused only by 7, where it is itself above the limit, by 4, where it has no byte, and by 8, where
+-- it has no byte below 128; and where by 4 or 8, no group of the original begins in it.
+pub data CopyRefused (original : List ℕ) (k : ℕ) : Refusal → Type 0 where
+  above-limit : blockLimit < length (drop k original) → CopyRefused original k TooLong
+  no-byte : drop k original ≡ [] → from k (listed original) ≡ [] → CopyRefused original k Place
+  all-high : High (drop k original) → from k (listed original) ≡ [] → CopyRefused original k NoStart
+
 -- A copy whose front is lost: set down at its place 1, a reader gives exactly the original's groups that begin at k and that start or later,
--- their places less k.
+-- their places less k. Where set-down refuses, there is none to give, unless the copy is above the limit.
 abbrev pub FrontLost : Type 0
-FrontLost = (f : ℕ → Rule) (original : List ℕ) (k : ℕ) (c : Cursor) (l : List (ℕ × ℕ × Answer Val)) → Bytes original
-    → SetsDown (drop k original) 1 (D.At c)
-    → ReaderGives f (drop k original) (c .place .0) l ↔ (l ≡ readings f (less k (from (k + c .place .0) (listed original))))
+FrontLost = (f : ℕ → Rule) (original : List ℕ) (k : ℕ) → Bytes original →
+    ((c : Cursor) (l : List (ℕ × ℕ × Answer Val)) → SetsDown (drop k original) 1 (D.At c)
+    → ReaderGives f (drop k original) (c .place .0) l ↔ (l ≡ readings f (less k (from (k + c .place .0) (listed original)))))
+    × ((why : Refusal) → SetsDown (drop k original) 1 (D.Refused why) → CopyRefused original k why)
 
 pub record OfDamage : Type 0 where
   pub damage-front : Front
