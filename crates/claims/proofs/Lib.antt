@@ -2,6 +2,7 @@ mod TableRows
 mod Readers
 mod RoundTrips
 mod Forms
+mod Growth
 mod Source
 mod ReadGroup
 mod ListBack

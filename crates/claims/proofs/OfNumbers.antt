@@ -32,6 +32,7 @@ use Rattle.claims.specs.OfNumbers.{Most, OfNumbers, zeroOf}
 use Rattle.claims.proofs.Readers.{number-says, refusal-says, one-reply, accepts, refuses, excludes, exhausts, within-of-mag, mag-of-within}
 use Rattle.claims.proofs.RoundTrips.{writes, write-read, read-write, more-behind, some-byte, lays-form}
 use Rattle.claims.proofs.Forms.{twos-complement, signed-form, one-too-many, signed-most, shortest-form}
+use Rattle.claims.proofs.Growth.{growth-values}
 use Rattle.claims.proofs.Source.{parse-same, serialize-same}
 
 some-written : (k : Kind) (v : Value k) (s : List ℕ) (at : ℕ) → (r : Written) × (out : List ℕ) × WritesAs k v s at r out
@@ -95,6 +96,7 @@ numbers = record {
   lengths = length-is;
   zero-takes-one = zero-takes-one;
   most = most;
+  growth = growth-values;
   twos-complement = twos-complement;
   signed-form = signed-form;
   one-too-many = λ g r. one-too-many r;

@@ -3,6 +3,7 @@
 --   Accepts, Refuses, Excludes, Exhausts             demand 2, readers
 --   Writes                                           demand 2, writers
 --   Shortest, Most, mostBytes, zeroOf                how a number is spelled, in how many bytes, and zero
+--   Grows, GrowthValues                              at which values a number grows by a byte
 --   TwosComplement, Within, SignedForm, OneTooMany   how a signed number is spelled
 --   WriteRead, ReadWrite, MoreBehind, SomeByte       round trips, and what the source calls prefix-secure and productive
 --   SpecParse                                        the source's own definition
@@ -16,7 +17,7 @@ use mathlib.Core.Logic.{_↔_, _⊎_}
 use mathlib.Core.Option.{some, none}
 use lib.IntN.{ℤ, pos, negℤ, _+ℤ_}
 use lib.Signed.{_≤ℤ_, _<ℤ_}
-use lib.ListN.{length}
+use lib.ListN.{length, getD}
 use Rattle.words.specs.Answer.{gives, refused, Why}
 use Rattle.words.specs.Lays.{LaysExactly}
 use Rattle.words.specs.Promise.{Numbered, HasRoom}
@@ -25,6 +26,7 @@ use Rattle.words.specs.declared.Refusal.{Refusal}
 use Rattle.words.specs.declared.Written.{Written}
 use Rattle.words.specs.declared.Written.the-variants as W
 use Rattle.groups.specs.Begins.{Begins}
+use Rattle.groups.specs.Form.{growth}
 use Rattle.groups.specs.Group.{Bytes, Group, digits}
 use Rattle.groups.specs.Promise.{Walks, Stores, SpelledLength, TakesLow7Bits, IsHigh8BitSet, SetsHigh8Bit}
 use Rattle.groups.specs.declared.Value.{Value as ByKind}
@@ -85,6 +87,21 @@ zeroOf loop64 = 0
 zeroOf recursive64 = 0
 zeroOf unsigned32 = 0
 zeroOf signed64 = pos 0
+
+-- g is the least number that takes n bytes, one more than the number before it.
+pub record Grows (n g : ℕ) : Type 0 where
+  pub takes : length (unsigned.form g) ≡ n
+  pub before : length (unsigned.form (g - 1)) + 1 ≡ n
+  pub least : (v : ℕ) → v < g → length (unsigned.form v) < n
+
+-- The nine values at which a 64-bit number grows by a byte: the least numbers that take two bytes, three, and so on to ten; and there is no other
+-- that takes one more than the number before it.
+pub record GrowthValues : Type 0 where
+  pub nine : length growth ≡ 9
+  pub of-width : (i : ℕ) → i < 9 → getD growth i 0 < 2 ^ 64
+  pub each : (i : ℕ) → i < 9 → Grows (i + 2) (getD growth i 0)
+  pub no-other : (v : ℕ) → v < 2 ^ 64 → length (unsigned.form v) ≡ length (unsigned.form (v - 1)) + 1
+      → (i : ℕ) × (i < 9) × (v ≡ getD growth i 0)
 
 -- A signed form of k bytes has the value of its 7k bits in two's complement.
 abbrev pub TwosComplement : Type 0
@@ -178,6 +195,7 @@ pub record OfNumbers : Type 0 where
   pub lengths : (k : Kind) (v : Value k) (n : Count) → TakesAs k v n → n .0 ≡ length (form k v)
   pub zero-takes-one : (k : Kind) → form k (zeroOf k) ≡ 0 ∷ []
   pub most : (k : Kind) → Most k
+  pub growth : GrowthValues
   -- signed forms
   pub twos-complement : TwosComplement
   pub signed-form : (v : ℤ) → SignedForm v

@@ -1,9 +1,11 @@
 -- The table of growth values: its rule, tested once over the whole table, and what looking a number up in it tells.
 --
 --   as-twice         a number spelled until what is left is below 64 takes as many bytes as twice the number, unsigned
+--   pow-more         the next power of 128 is 128 times as much
 --   unsigned-some    some byte spells a number, unsigned,
---   unsigned-short   and at most k + 1 do where it is below 128 to the k + 1
---   growth           128 to the powers from 1 to 9: from each on, a number takes a byte more
+--   unsigned-short   at most k + 1 do where it is below 128 to the k + 1,
+--   unsigned-long    and more than k + 1 where it is not
+--   growth-at        the growth values are 128 to the powers from 1 to 9
 --   length-found     a number below the value at i, spelled by more than i bytes, takes i + 1
 --   growth-passed    one not below it takes more than i + 1
 --   at-most-ten      a number of 64 bits takes ten at most,
@@ -18,10 +20,10 @@ use native.Mathlib.Omega.{arith}
 use lib.ListN.{length, getD}
 use Rattle.words.specs.Lays.{Takes}
 use Rattle.words.proofs.Cases.{by-order}
-use Rattle.groups.specs.Form.{spell}
+use Rattle.groups.specs.Form.{spell, growth}
 use Rattle.groups.proofs.Spelling.{Spelled, spelled, some-bytes, spelled-short, short-small}
 
-pow-more : (k : ℕ) → 128 ^ (k + 1) ≡ 128 * 128 ^ k
+pub pow-more : (k : ℕ) → 128 ^ (k + 1) ≡ 128 * 128 ^ k
 pow-more k = rw add-one (pow-succ' 128 k)
 
 unsigned-spelled : (v : ℕ) → Spelled false 128 v (spell false 128 v)
@@ -33,7 +35,7 @@ unsigned-some v = some-bytes (unsigned-spelled v)
 pub unsigned-short : (v k : ℕ) → v < 128 ^ (k + 1) → length (spell false 128 v) ≤ k + 1
 unsigned-short v k h = omega (arith, spelled-short (omega arith) k (unsigned-spelled v) (omega (arith, pow-more k)))
 
-unsigned-long : (v k : ℕ) → 128 ^ (k + 1) ≤ v → k + 1 < length (spell false 128 v)
+pub unsigned-long : (v k : ℕ) → 128 ^ (k + 1) ≤ v → k + 1 < length (spell false 128 v)
 unsigned-long v k h =
     by-order (k + 1) (length (spell false 128 v)) (λ l. l)
     (λ l. absurd (omega (arith, short-small (omega arith) k (unsigned-spelled v) (omega arith), pow-more k)))
@@ -62,11 +64,7 @@ table-at f i zero k h = absurd (omega arith)
 table-at f i (suc n) zero h = rw (add-zero i)
 table-at f i (suc n) (suc k) h = table-at f (suc i) n k (omega arith) ∙ ap f (omega arith)
 
-abbrev pub growth : List ℕ
-growth =
-    128 ∷ 16384 ∷ 2097152 ∷ 268435456 ∷ 34359738368 ∷ 4398046511104 ∷ 562949953421312 ∷ 72057594037927936 ∷ 9223372036854775808 ∷ []
-
-growth-at : (i : ℕ) → i < 9 → getD growth i 0 ≡ 128 ^ (i + 1)
+pub growth-at : (i : ℕ) → i < 9 → getD growth i 0 ≡ 128 ^ (i + 1)
 unfolding table
 growth-at i h = table-at (λ (k : ℕ). 128 ^ (k + 1)) 0 9 i h ∙ ap (λ (k : ℕ). 128 ^ (k + 1)) (omega arith)
 

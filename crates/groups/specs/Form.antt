@@ -6,6 +6,7 @@
 --   spell below small m   as many bytes as it takes until what is left is below small; `spellings`: the same, over a bound on how many there can be
 --   below v               v is below zero
 --   spelling n            the bytes of a number by its kind: unsigned until what is left is below 128, signed until it is below 64
+--   growth                the nine values at which a 64-bit number grows by a byte
 use Prim.Native.Nat.{ℕ, zero, suc, _+_, _-_, _/_, _%_}
 use mathlib.Core.List.{List, [], _∷_}
 use mathlib.Core.Bool.{Bool, true, false}
@@ -40,3 +41,8 @@ below (negsuc n) = true
 abbrev pub spelling : Value → List ℕ
 spelling (Unsigned v) = spell false 128 v
 spelling (Signed v) = spell (below v) 64 (mag v)
+
+-- document 01's list
+abbrev pub growth : List ℕ
+growth =
+    128 ∷ 16384 ∷ 2097152 ∷ 268435456 ∷ 34359738368 ∷ 4398046511104 ∷ 562949953421312 ∷ 72057594037927936 ∷ 9223372036854775808 ∷ []
