@@ -1,7 +1,7 @@
 // A line: put together of a name and numbers, and then laid down in a lent buffer.
 use crate::numbers;
 use blocks::Cursor;
-use blocks::Value;
+use groups::Value;
 use texts::decimal;
 use words::Count;
 use words::Place;

@@ -11,8 +11,8 @@ use Rattle.blocks.specs.Block.{Val, unsigned, signed, Stepped, number, g
 use Rattle.blocks.specs.Promise.{meansValue, meansStep, meansSetDown}
 use Rattle.blocks.specs.declared.Step.{Step}
 use Rattle.blocks.specs.declared.Step.the-variants as S
-use Rattle.blocks.specs.declared.Value.{Value}
-use Rattle.blocks.specs.declared.Value.the-variants as N
+use Rattle.groups.specs.declared.Value.{Value}
+use Rattle.groups.specs.declared.Value.the-variants as N
 use Rattle.blocks.specs.declared.SetDown.{SetDown}
 use Rattle.blocks.specs.declared.SetDown.the-variants as D
 

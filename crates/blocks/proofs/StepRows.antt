@@ -31,7 +31,7 @@ use Rattle.blocks.specs.declared.Rule.{Rule}
 use Rattle.blocks.specs.declared.Rule.the-variants.{Unsigned, Signed}
 use Rattle.blocks.specs.declared.Step.{Step}
 use Rattle.blocks.specs.declared.Step.the-variants as S
-use Rattle.blocks.specs.declared.Value.the-variants as N
+use Rattle.groups.specs.declared.Value.the-variants as N
 use Rattle.blocks.proofs.Rows.{step-too-long, step-past, step-finished, step-not-a-start}
 use Rattle.blocks.proofs.FromStart.{start-true, true-start, AtStart, the-end, a-tail, a-group, from-start, tail-says, group-says, group-here, here-group}
 use Rattle.blocks.proofs.OneStep.{same-step}

@@ -10,8 +10,8 @@ use mathlib.Core.Path.{_≡_}
 use Rattle.words.specs.Answer.{Answer, gives, refused, because}
 use Rattle.blocks.specs.Block.{Val, unsigned, signed, Stepped, number, gap, tail, finished, refuses, stepping, settingDown}
 use Rattle.blocks.specs.declared.Rule.{Rule}
-use Rattle.blocks.specs.declared.Value.{Value}
-use Rattle.blocks.specs.declared.Value.the-variants as N
+use Rattle.groups.specs.declared.Value.{Value}
+use Rattle.groups.specs.declared.Value.the-variants as N
 use Rattle.blocks.specs.declared.Step.{Step}
 use Rattle.blocks.specs.declared.Step.the-variants as S
 use Rattle.blocks.specs.declared.SetDown.{SetDown}

@@ -16,7 +16,7 @@ use Rattle.blocks.specs.Promise.{meansValue, Steps}
 use Rattle.blocks.specs.declared.Cursor.{Cursor}
 use Rattle.blocks.specs.declared.Rule.{Rule}
 use Rattle.blocks.specs.declared.Step.the-variants as S
-use Rattle.blocks.specs.declared.Value.{Value}
+use Rattle.groups.specs.declared.Value.{Value}
 
 pub record Block (s : List ℕ) : Type 0 where
   pub bytes : Bytes s

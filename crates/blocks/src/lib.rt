@@ -1,4 +1,5 @@
 // Blocks: a run of groups and a tail. A cursor steps through it, a group at a time; set-down finds where to begin.
+use groups::Value;
 use groups::is_high_8_bit_set;
 use sleb128::ReadI64;
 use sleb128::read_i64;
@@ -22,11 +23,6 @@ pub const BLOCK_LIMIT: usize = 4096;
 pub enum Rule {
     Unsigned,
     Signed,
-}
-
-pub enum Value {
-    Unsigned(u64),
-    Signed(i64),
 }
 
 // A reader's place in a block.

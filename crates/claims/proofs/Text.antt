@@ -24,7 +24,7 @@ use Rattle.blocks.specs.GroupsAndTail.{cut}
 use Rattle.blocks.specs.declared.Rule.the-variants.{Unsigned}
 use Rattle.blocks.specs.declared.Step.{Step}
 use Rattle.blocks.specs.declared.Step.the-variants as S
-use Rattle.blocks.specs.declared.Value.the-variants as N
+use Rattle.groups.specs.declared.Value.the-variants as N
 use Rattle.blocks.proofs.StepRows.{some-step-row, step-row-kept}
 use Rattle.listing.specs.Listing.{text, Stage, top, at, ended, Coming, line, lineOf, next, row, rows, lineRoom}
 use Rattle.listing.specs.Promise.{meansListing, meansNext, asked, fronted, GivesLine, lineCounted}

@@ -4,7 +4,7 @@ use blocks::BLOCK_LIMIT;
 use blocks::Cursor;
 use blocks::Rule;
 use blocks::Step;
-use blocks::Value;
+use groups::Value;
 use libc::STDIN_FILENO;
 use libc::STDOUT_FILENO;
 use words::Count;

@@ -5,7 +5,7 @@ use blocks::BLOCK_LIMIT;
 use blocks::Cursor;
 use blocks::Rule;
 use blocks::Step;
-use blocks::Value;
+use groups::Value;
 use words::Place;
 use words::Refusal;
 ghost use Prim.Native.Nat.{_≤_};
