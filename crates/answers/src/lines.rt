@@ -4,47 +4,47 @@ use blocks::Cursor;
 use groups::Value;
 use texts::decimal;
 use words::Count;
-use words::Place;
 use words::Refusal;
 
 // Room for a name and five numbers of 64 bits.
 const ROOM: usize = 128;
 
-// The first bytes of the text, up to the end.
+// The first bytes of the text: as many as are filled.
 pub(crate) struct Line {
     text: [u8; ROOM],
-    end: usize,
+    filled: Count,
 }
 
 // A line that has a name, and no numbers yet.
 pub(crate) fn says(name: &[u8]) -> Line {
     let nothing = Line {
         text: [0u8; ROOM],
-        end: 0,
+        filled: Count(0),
     };
     nothing.word(name)
 }
 
-// Lays the first bytes of a text down, up to the end.
-fn front(text: &[u8], end: usize, out: &mut [u8], at: Place) -> Place {
-    if text.len() < end {
-        return at;
+// Lays so many of the first bytes of a text down.
+fn front(text: &[u8], count: Count, out: &mut [u8], filled: Count) -> Count {
+    let n = count.0;
+    if text.len() < n {
+        return filled;
     }
-    texts::word(&text[0..end], out, at)
+    texts::word(&text[0..n], out, filled)
 }
 
 // Each adds to the line and hands it back: a number in decimal, with a space before it.
 impl Line {
     pub(crate) fn word(self, letters: &[u8]) -> Line {
         let mut text = self.text;
-        let end = texts::word(letters, &mut text, Place(self.end));
-        Line { text, end: end.0 }
+        let filled = texts::word(letters, &mut text, self.filled);
+        Line { text, filled }
     }
 
     fn digits(self, v: u64) -> Line {
         let mut text = self.text;
-        let end = decimal(v, &mut text, Place(self.end));
-        Line { text, end: end.0 }
+        let filled = decimal(v, &mut text, self.filled);
+        Line { text, filled }
     }
 
     pub(crate) fn number(self, v: u64) -> Line {
@@ -80,9 +80,9 @@ impl Line {
         self.number(place.0 as u64)
     }
 
-    // Lays the line down at a place, and answers the place behind it.
-    pub(crate) fn lay(self, out: &mut [u8], at: Place) -> Place {
+    // Lays the line down behind what is filled, and answers how many bytes then are.
+    pub(crate) fn lay(self, out: &mut [u8], filled: Count) -> Count {
         let text = self.text;
-        front(&text, self.end, out, at)
+        front(&text, self.filled, out, filled)
     }
 }

@@ -13,19 +13,19 @@ use frames::Coming;
 use frames::MOST_BYTES;
 use libc::STDOUT_FILENO;
 use texts::word;
-use words::Place;
+use words::Count;
 
 // The longest line has 400,011 bytes.
 const OUTPUT: usize = 409600;
 
-// Writes the line that ends at the place, with its newline, and says whether that could be done.
-fn write_line(output: &mut [u8], end: Place) -> bool {
-    let behind = word(b"\n", output, end);
-    let till = behind.0;
-    if output.len() < till {
+// Writes the line that fills so many bytes, with its newline, and says whether that could be done.
+fn write_line(output: &mut [u8], filled: Count) -> bool {
+    let ended = word(b"\n", output, filled);
+    let n = ended.0;
+    if output.len() < n {
         return false;
     }
-    io::write_all(STDOUT_FILENO, &output[0..till])
+    io::write_all(STDOUT_FILENO, &output[0..n])
 }
 
 // Answers the next frame, and says whether to go on: a frame came, and its line could be written.
@@ -38,8 +38,8 @@ fn answer_next(input: &mut [u8], output: &mut [u8]) -> bool {
         }
         Coming::Whole(frame) => {
             let n = frame.n;
-            let end = ops::answer(frame, &mut input[0..n], output);
-            write_line(output, end)
+            let filled = ops::answer(frame, &mut input[0..n], output);
+            write_line(output, filled)
         }
     }
 }

@@ -2,38 +2,38 @@
 use crate::said;
 use texts::decimal;
 use texts::word;
-use words::Place;
+use words::Count;
 
 // The most numbers of an answer slice, and what each is before it is filled.
 const SLICE: usize = 8192;
 
 const UNFILLED: u64 = 7777777777777777777;
 
-fn spaced(v: u64, out: &mut [u8], at: Place) -> Place {
-    let next = word(b" ", out, at);
-    decimal(v, out, next)
+fn spaced(v: u64, out: &mut [u8], filled: Count) -> Count {
+    let parted = word(b" ", out, filled);
+    decimal(v, out, parted)
 }
 
-fn each(numbers: &[u64], out: &mut [u8], at: Place) -> Place {
-    let mut next = at;
+fn each(numbers: &[u64], out: &mut [u8], filled: Count) -> Count {
+    let mut so_far = filled;
     let mut i = 0;
     while i < numbers.len() {
         let v = numbers[i];
-        next = spaced(v, out, next);
+        so_far = spaced(v, out, so_far);
         i += 1;
     }
-    next
+    so_far
 }
 
 // The line for strict reading into a slice of so many numbers.
-pub(crate) fn read_strict(asked: u64, block: &[u8], out: &mut [u8]) -> Place {
+pub(crate) fn read_strict(asked: u64, block: &[u8], out: &mut [u8]) -> Count {
     let count = asked as usize;
     if SLICE < count {
-        return said::unknown().lay(out, Place(0));
+        return said::unknown().lay(out, Count(0));
     }
     let mut slice = [UNFILLED; SLICE];
     let part = &mut slice[0..count];
     let answer = lists::read_strict(block, part);
-    let next = said::read_list(answer).lay(out, Place(0));
-    each(part, out, next)
+    let answered = said::read_list(answer).lay(out, Count(0));
+    each(part, out, answered)
 }

@@ -7,6 +7,7 @@ use crate::hex;
 use crate::numbers;
 use crate::numbers::Narrow;
 use crate::said;
+use words::Count;
 use words::Place;
 use words::Written;
 ghost use Prim.Native.Nat.{_*_, _≤_};
@@ -74,18 +75,18 @@ fn write(frame: Frame, bytes: &mut [u8]) -> Wrote {
     }
 }
 
-fn lay(wrote: Wrote, bytes: &[u8], out: &mut [u8]) -> Place {
+fn lay(wrote: Wrote, bytes: &[u8], out: &mut [u8]) -> Count {
     match wrote {
         Wrote::Answer(answer, from) => {
-            let next = said::written(answer).word(b" ").lay(out, Place(0));
-            hex::behind(bytes, from, out, next)
+            let answered = said::written(answer).word(b" ").lay(out, Count(0));
+            hex::behind(bytes, from, out, answered)
         }
-        Wrote::Unknown => said::unknown().lay(out, Place(0)),
+        Wrote::Unknown => said::unknown().lay(out, Count(0)),
     }
 }
 
 // The line for such an op.
-pub(crate) fn answer(frame: Frame, bytes: &mut [u8], out: &mut [u8]) -> Place {
+pub(crate) fn answer(frame: Frame, bytes: &mut [u8], out: &mut [u8]) -> Count {
     let wrote = write(frame, bytes);
     lay(wrote, bytes, out)
 }

@@ -15,7 +15,7 @@ use mathlib.Core.List.{List, [], _∷_, _++_}
 use mathlib.Core.Logic.{_↔_}
 use lib.ListN.{length, take, replicate}
 use Rattle.words.specs.declared.Count.{Count}
-use Rattle.texts.specs.Texts.{ascii, decimal, LaysText}
+use Rattle.texts.specs.Texts.{ascii, decimal, LaysText, LaysDecimal}
 use Rattle.groups.specs.Group.{Bytes, digits}
 use Rattle.blocks.specs.Block.{blockLimit}
 use Rattle.listing.specs.Promise.{GivesLine}
@@ -51,12 +51,14 @@ pub record Document : Type 0 where
 
 -- Each promise is met by some answer, with some final content of what was lent, on every input: no claim over promises is empty.
 pub record ListingMet : Type 0 where
-  pub text : (t s : List ℕ) (at : ℕ) → (r : ℕ) × (out : List ℕ) × LaysText t s at r out
+  pub text : (t s : List ℕ) (n : ℕ) → (r : ℕ) × (out : List ℕ) × LaysText t s n r out
+  pub decimal : (v : ℕ) (s : List ℕ) (n : ℕ) → (r : ℕ) × (out : List ℕ) × LaysDecimal v s n r out
   pub line : (g : Listing) (s before : List ℕ) → Bytes s → (r : Next) × (after : List ℕ) × GivesLine g s before r after
 
 -- And by no second: no second answer, and no second final content of what was lent.
 pub record ListingOne : Type 0 where
-  pub text : (t s : List ℕ) (at r r′ : ℕ) (out out′ : List ℕ) → LaysText t s at r out → LaysText t s at r′ out′ → (r ≡ r′) × (out ≡ out′)
+  pub text : (t s : List ℕ) (n r r′ : ℕ) (out out′ : List ℕ) → LaysText t s n r out → LaysText t s n r′ out′ → (r ≡ r′) × (out ≡ out′)
+  pub decimal : (v : ℕ) (s : List ℕ) (n r r′ : ℕ) (out out′ : List ℕ) → LaysDecimal v s n r out → LaysDecimal v s n r′ out′ → (r ≡ r′) × (out ≡ out′)
   pub line : (g : Listing) (s before : List ℕ) (r r′ : Next) (after after′ : List ℕ) → GivesLine g s before r after → GivesLine g s before r′ after′
       → (r ≡ r′) × (after ≡ after′)
 

@@ -2,7 +2,7 @@
 --
 --   line-no-room              a buffer too small for a line is refused by 5, and kept
 --   line-fronts               in any other, the line that comes next, put to the buffer's front, is given
---   line-comes                so it is if it has at most `lineRoom` bytes and was laid down at place 0
+--   line-comes                so it is if it has at most `lineRoom` bytes and was laid down where none were filled
 --   line-none, line-refused   where nothing comes next, or a refusal, that is answered, and the buffer is kept
 --   row-fits                  a row of two numbers of 64 bits and a word of at most 12 bytes has at most `lineRoom` bytes
 --   fault-short               the word for a fault has at most 12 bytes

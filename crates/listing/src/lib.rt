@@ -38,12 +38,12 @@ pub enum Next {
     Refused(Refusal),
 }
 
-// `PLACE WHAT VALUE`, and where it ends.
-fn row(place: Place, what: &[u8], value: u64, line: &mut [u8]) -> Place
+// `PLACE WHAT VALUE`, at the front, and how many bytes it fills.
+fn row(place: Place, what: &[u8], value: u64, line: &mut [u8]) -> Count
     ensures { λ r. ⌜ LaysText (rowOf (place .0) (now (what .entry)) value) (now (line .entry)) 0 (r .0) (now (line .exit)) ⌝ }
 {
     let at = place.0;
-    let placed = texts::decimal(at as u64, line, Place(0));
+    let placed = texts::decimal(at as u64, line, Count(0));
     let spaced = texts::word(b" ", line, placed);
     let named = texts::word(what, line, spaced);
     let parted = texts::word(b" ", line, named);
@@ -52,7 +52,7 @@ fn row(place: Place, what: &[u8], value: u64, line: &mut [u8]) -> Place
 }
 
 // The row of a group that is no number: its fault and its length.
-fn gap_row(place: Place, refusal: Refusal, count: Count, line: &mut [u8]) -> Place
+fn gap_row(place: Place, refusal: Refusal, count: Count, line: &mut [u8]) -> Count
     ensures { λ r. ⌜ LaysText (rowOf (place .0) (fault (because refusal)) (count .0)) (now (line .entry)) 0 (r .0) (now (line .exit)) ⌝ }
 {
     let length = count.0;
@@ -71,19 +71,19 @@ fn line_at(cursor: Cursor, block: &[u8], line: &mut [u8]) -> Next
     match cursor.step(block, Rule::Unsigned) {
         Step::Number(value, _, next) => match value {
             Value::Unsigned(v) => {
-                let end = row(place, b"number", v, line);
-                Next::Line(Count(end.0), Listing::At(next))
+                let filled = row(place, b"number", v, line);
+                Next::Line(filled, Listing::At(next))
             }
             Value::Signed(_) => Next::Ended,
         },
         Step::Gap(refusal, count, next) => {
-            let end = gap_row(place, refusal, count, line);
-            Next::Line(Count(end.0), Listing::At(next))
+            let filled = gap_row(place, refusal, count, line);
+            Next::Line(filled, Listing::At(next))
         }
         Step::Tail(count, _) => {
             let length = count.0;
-            let end = row(place, b"tail", length as u64, line);
-            Next::Line(Count(end.0), Listing::Ended)
+            let filled = row(place, b"tail", length as u64, line);
+            Next::Line(filled, Listing::Ended)
         }
         Step::Finished(_) => Next::Ended,
         Step::Refused(refusal) => Next::Refused(refusal),
@@ -101,12 +101,12 @@ pub fn next_line(listing: Listing, block: &[u8], line: &mut [u8]) -> Next
     match listing {
         Listing::Top => {
             if BLOCK_LIMIT < block.len() {
-                let end = texts::word(b"refused 7\n", line, Place(0));
-                return Next::Line(Count(end.0), Listing::Ended);
+                let filled = texts::word(b"refused 7\n", line, Count(0));
+                return Next::Line(filled, Listing::Ended);
             }
-            let end = texts::word(b"place what value\n", line, Place(0));
+            let filled = texts::word(b"place what value\n", line, Count(0));
             let first = Cursor { place: Place(0) };
-            Next::Line(Count(end.0), Listing::At(first))
+            Next::Line(filled, Listing::At(first))
         }
         Listing::At(cursor) => line_at(cursor, block, line),
         Listing::Ended => Next::Ended,

@@ -13,7 +13,7 @@ use borrow.Author.Tests.{lt-ltb, le-ltb}
 use lib.ListN.{length, length-append}
 use Rattle.io.specs.Digits.{digits, glyph, Fewest}
 use Rattle.words.proofs.Cases.{by-order}
-use Rattle.texts.specs.Texts.{decimal, decimalWithin, LaysText}
+use Rattle.texts.specs.Texts.{decimal, decimalWithin, LaysText, LaysDecimal}
 
 -- l is the digits of v
 pub data DigitsOf : ℕ → List ℕ → Type 0 where
@@ -66,7 +66,7 @@ fewest : (k v : ℕ) → Fewest 10 1 v k → digits 10 k v ≡ decimal v
 fewest k v f = unique (digits-spelled k v f) (spelled v)
 
 -- those digits, laid down
-pub lays-decimal : (k v : ℕ) {t s s′ : List ℕ} {at r : ℕ} → Fewest 10 1 v k → t ≡ digits 10 k v → LaysText t s at r s′ → LaysText (decimal v) s at r s′
+pub lays-decimal : (k v : ℕ) {t s s′ : List ℕ} {n r : ℕ} → Fewest 10 1 v k → t ≡ digits 10 k v → LaysText t s n r s′ → LaysDecimal v s n r s′
 lays-decimal k v f e p = rw (← (fewest k v f), ← e) p
 
 at-most : (k : ℕ) {v : ℕ} {l : List ℕ} → DigitsOf v l → v < 10 ^ suc k → length l ≤ suc k

@@ -1,9 +1,11 @@
 -- Texts as bytes, and how they are laid down in a buffer.
 --
---   ascii t                the bytes of a text in ASCII; `codes n t i`: of its n characters from the place i on
---   decimal v              the number v in decimal: one digit if v < 10, else the digits of v div 10 and then that of v mod 10; `decimalWithin`: the same, over a
---                          bound on how many there can be
---   LaysText t s at r s′   as many bytes of the text t as the buffer s has room for stand at the place, all else is kept, and r is the place behind
+--   ascii t                  the bytes of a text in ASCII; `codes n t i`: of its n characters from the place i on
+--   decimal v                the number v in decimal: one digit if v < 10, else the digits of v div 10 and then that of v mod 10; `decimalWithin`: the same, over a
+--                            bound on how many there can be
+--   LaysText t s n r s′      n bytes of the buffer s are filled: as many bytes of the text t as there is room for stand behind them, all else is kept, and r is how
+--                            many then are filled
+--   LaysDecimal v s n r s′   so stands the number v in decimal
 use Prim.Native.Nat.{ℕ, zero, suc, _+_, _-_, _/_, _%_}
 use Prim.Native.Char.{code}
 use Prim.Native.String.{String, len, charAt}
@@ -31,6 +33,9 @@ decimalWithin (suc n) v =
 unfoldable pub decimal : ℕ → List ℕ
 decimal v = decimalWithin v v
 
-pub record LaysText (t s : List ℕ) (at r : ℕ) (s′ : List ℕ) : Type 0 where
-  pub place : r ≡ at + length (take (length s - at) t)
-  pub bytes : s′ ≡ sets s at (take (length s - at) t)
+pub record LaysText (t s : List ℕ) (n r : ℕ) (s′ : List ℕ) : Type 0 where
+  pub count : r ≡ n + length (take (length s - n) t)
+  pub bytes : s′ ≡ sets s n (take (length s - n) t)
+
+abbrev pub LaysDecimal : ℕ → List ℕ → ℕ → ℕ → List ℕ → Type 0
+LaysDecimal v s n r s′ = LaysText (decimal v) s n r s′

@@ -7,10 +7,10 @@ use Rattle.texts.proofs.word.Statement.{statement}
 use Rattle.texts.proofs.word.Tie as tie
 
 abbrev Inv-loop : tie.InvT-loop
-Inv-loop text buffer₀ at₀ i₀ buffer at i = TextSoFar text i buffer₀ at₀ at buffer
+Inv-loop text buffer₀ n₀ i₀ buffer n i = TextSoFar text i buffer₀ n₀ n buffer
 
 abbrev μ-loop : tie.MeasureT-loop
-μ-loop text buffer₀ at₀ i₀ buffer at i = length text - i
+μ-loop text buffer₀ n₀ i₀ buffer n i = length text - i
 
 loop-holds : tie.Need-loop-holds Inv-loop μ-loop
 loop-holds c = text-begun

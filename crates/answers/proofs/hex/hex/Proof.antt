@@ -7,10 +7,10 @@ use Rattle.answers.proofs.hex.hex.Statement.{statement}
 use Rattle.answers.proofs.hex.hex.Tie as tie
 
 abbrev Inv-loop : tie.InvT-loop
-Inv-loop bytes out₀ next₀ i₀ out next i = length out ≡ length out₀
+Inv-loop bytes out₀ so-far₀ i₀ out so-far i = length out ≡ length out₀
 
 abbrev μ-loop : tie.MeasureT-loop
-μ-loop bytes out₀ next₀ i₀ out next i = length bytes - i
+μ-loop bytes out₀ so-far₀ i₀ out so-far i = length bytes - i
 
 pub hex-spec : {M : Type 1} → statement M
 hex-spec =

@@ -10,11 +10,11 @@ use Rattle.answers.proofs.listings.text.Statement.{statement}
 use Rattle.answers.proofs.listings.text.Tie as tie
 
 abbrev Inv-loop : tie.InvT-loop
-Inv-loop block line₀ out₀ next₀ listing₀ line out next listing =
+Inv-loop block line₀ out₀ so-far₀ listing₀ line out so-far listing =
     (length line ≡ length line₀) × (length out ≡ length out₀) × Fine block (meansListing listing)
 
 abbrev μ-loop : tie.MeasureT-loop
-μ-loop block line₀ out₀ next₀ listing₀ line out next listing = rank block (meansListing listing)
+μ-loop block line₀ out₀ so-far₀ listing₀ line out so-far listing = rank block (meansListing listing)
 
 -- what the line that was given is
 given-line : (c : tie.After-known-told Inv-loop μ-loop)

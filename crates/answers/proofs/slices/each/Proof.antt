@@ -7,10 +7,10 @@ use Rattle.answers.proofs.slices.each.Statement.{statement}
 use Rattle.answers.proofs.slices.each.Tie as tie
 
 abbrev Inv-loop : tie.InvT-loop
-Inv-loop numbers out₀ next₀ i₀ out next i = (length out ≡ length out₀) × (i ≤ length numbers)
+Inv-loop numbers out₀ so-far₀ i₀ out so-far i = (length out ≡ length out₀) × (i ≤ length numbers)
 
 abbrev μ-loop : tie.MeasureT-loop
-μ-loop numbers out₀ next₀ i₀ out next i = length numbers - i
+μ-loop numbers out₀ so-far₀ i₀ out so-far i = length numbers - i
 
 pub each-spec : {M : Type 1} → statement M
 each-spec =
