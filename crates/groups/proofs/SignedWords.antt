@@ -22,7 +22,8 @@ use lib.Signed.{mag, ltZ, nonNeg}
 use Rattle.words.specs.Lays.{Lays}
 use Rattle.words.specs.declared.Count.{Count}
 use Rattle.words.specs.declared.Written.{Written}
-use Rattle.groups.specs.Form.{groups, below}
+use Rattle.groups.specs.Form.{below}
+use Rattle.groups.specs.Inner.{groups}
 use Rattle.groups.specs.Promise.{SpelledLength, Stores}
 use Rattle.groups.specs.declared.Value.the-variants.{Signed}
 use Rattle.groups.proofs.Spelling.{spelled, spelled-laid}

@@ -34,7 +34,8 @@ use Rattle.words.specs.declared.Count.{Count}
 use Rattle.words.specs.declared.Written.{Written}
 use Rattle.words.proofs.Cases.{by-order}
 use Rattle.groups.specs.Group.{run, Group, one, more, digits}
-use Rattle.groups.specs.Form.{say, groups, spellings, spell}
+use Rattle.groups.specs.Form.{say, spellings, spell}
+use Rattle.groups.specs.Inner.{groups}
 use Rattle.groups.proofs.Run.{run-low, run-high, pow-up}
 
 pub say-below : (below : Bool) (d : ℕ) → d < 128 → say below d < 128

@@ -17,7 +17,8 @@ use Rattle.words.specs.Lays.{Lays}
 use Rattle.words.specs.declared.Count.{Count}
 use Rattle.words.specs.declared.Written.the-variants.{Bytes}
 use Rattle.words.proofs.Lays.{fits-there}
-use Rattle.groups.specs.Form.{say, groups}
+use Rattle.groups.specs.Form.{say}
+use Rattle.groups.specs.Inner.{groups}
 use Rattle.groups.specs.Macros.{takeLow7Bits, setHigh8Bit}
 use Rattle.groups.proofs.HighBit.{set-seven}
 use Rattle.groups.proofs.Spelling.{length-groups, say-below}

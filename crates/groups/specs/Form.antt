@@ -2,7 +2,6 @@
 -- those of the two's complement: with m for -v-1, 127 less those of m.
 --
 --   say below d           seven bits, or below zero their complement
---   groups below n m      n bytes that spell m
 --   spell below small m   as many bytes as it takes until what is left is below small; `spellings`: the same, over a bound on how many there can be
 --   below v               v is below zero
 --   spelling n            the bytes of a number by its kind: unsigned until what is left is below 128, signed until it is below 64
@@ -19,11 +18,6 @@ use Rattle.groups.specs.declared.Value.the-variants.{Unsigned, Signed}
 abbrev pub say : Bool → ℕ → ℕ
 say false d = d
 say true d = 127 - d
-
-unfoldable pub groups : Bool → ℕ → ℕ → List ℕ
-groups below zero m = []
-groups below (suc zero) m = say below (m % 128) ∷ []
-groups below (suc (suc n)) m = (128 + say below (m % 128)) ∷ groups below (suc n) (m / 128)
 
 -- the first number bounds how many bytes there can be: m itself is enough
 unfoldable pub spellings : Bool → ℕ → ℕ → ℕ → List ℕ

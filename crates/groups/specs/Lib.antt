@@ -4,3 +4,4 @@ pub mod Width
 pub mod Form
 pub mod Begins
 pub mod Promise
+pub mod Inner

@@ -13,7 +13,8 @@ ghost use mathlib.Core.Bool.{false};
 ghost use Prim.Native.Nat.{_<_};
 ghost use lib.Signed.{mag};
 ghost use Rattle.words.specs.Lays.{Lays, Takes};
-ghost use Rattle.groups.specs.Form.{say, groups, spell, below as is-below};
+ghost use Rattle.groups.specs.Form.{say, spell, below as is-below};
+ghost use Rattle.groups.specs.Inner.{groups};
 ghost use Rattle.groups.specs.Promise.{SpelledLength, Stores};
 
 // The values at which a 64-bit number grows by a byte.
