@@ -193,22 +193,35 @@ def field_named(name, known):
     return found[0] if len(found) == 1 else None
 
 
-# All that a text in a file of claims/specs speaks of, through the definitions of claims/specs that its names stand for: (crate, file, name).
-def spoken_of(text, path):
-    seen, todo = set(), [(text, path)]
+# The definitions that these come to, (crate, file, name): themselves, and those that they mention, as far as they stand in the crate.
+def definitions_behind(seeds, crate):
+    seen, todo = set(), list(seeds)
     while todo:
-        text, path = todo.pop()
-        own, _ = declarations(path)
-        crate, imported = imports(path)
-        here = os.path.basename(path)[:-5]
-        for name in names_in(text):
-            meant = (crate, here, name) if name in own else imported.get(name)
-            if meant and meant not in seen:
-                seen.add(meant)
-                if meant[0] == "claims":
-                    there = f"crates/claims/specs/{meant[1]}.antt"
-                    todo.append((declarations(there)[0].get(meant[2], ""), there))
+        meant = todo.pop()
+        if meant in seen:
+            continue
+        seen.add(meant)
+        if meant[0] == crate:
+            path = f"crates/{meant[0]}/specs/{meant[1]}.antt"
+            todo += mentioned(declarations(path)[0].get(meant[2], ""), path)
     return seen
+
+
+# The definitions that a text in a file of specs/ mentions.
+def mentioned(text, path):
+    own, _ = declarations(path)
+    crate, imported = imports(path)
+    here = os.path.basename(path)[:-5]
+    for name in names_in(text):
+        if name in own:
+            yield (crate, here, name)
+        elif name in imported:
+            yield imported[name]
+
+
+# All that a field of `Claims` speaks of, through the definitions of claims/specs.
+def spoken_of(type_, path):
+    return definitions_behind(mentioned(type_, path), "claims")
 
 
 # ---- must-fail edits
@@ -226,6 +239,34 @@ def edits():
 def attacks():
     lines = read("docs/edits.txt").rstrip("\n").split("\n")
     return dict(line.split(": ", 1) for line in lines if not line.startswith("#"))
+
+
+# The public functions that an edit of their crate tries: it changes the text of the function, of one inside the crate that it calls (not through
+# another public one) or of a constant that they name; or a definition that their clauses come to.
+def tried(edit, all_functions):
+    crate, lines = edit
+    path = f"crates/{crate}/{lines['file']}"
+    own = [f for f in all_functions if f.crate == crate]
+    found = []
+    for function in own:
+        inside, todo = [], [function] if function.public else []
+        while todo:
+            f = todo.pop()
+            if f not in inside:
+                inside.append(f)
+                todo += [g for g in own if not g.public and re.search(rf"\b{g.name.split('::')[-1]}\(", f.body)]
+        if lines["file"].startswith("src/"):
+            at = read(path).find(lines["old"])
+            constant = next((m[1] for m in re.finditer(r"\bconst (\w+)[^;]*;[^;]*;", read(path)) if m.start() <= at < m.end()), None)
+            hit = any((f.path == path and f.start <= at <= f.end) or (constant and re.search(rf"\b{constant}\b", f.body)) for f in inside)
+        else:
+            own_names = declarations(path)[0]
+            changed = {(crate, os.path.basename(path)[:-5], name) for name, text in own_names.items() if lines["old"] in text}
+            cited = [ghosts(f.path)[name] for f in inside for _, clause in f.clauses for name in names_in(clause) if name in ghosts(f.path)]
+            hit = bool(changed & definitions_behind(cited, crate))
+        if hit:
+            found.append(function.name)
+    return found
 
 
 # ---- documents
