@@ -12,8 +12,8 @@ use Rattle.uleb128_rec.proofs.reading.+read_rest.{statement}
 use Rattle.uleb128_rec.proofs.reading.read_rest.Reads as read-rest
 use Rattle.uleb128_rec.proofs.reading.read_rest.Kinds as read-rest-kinds
 use Rattle.uleb128_rec.proofs.reading.+read_rest.Lts-read_rest as lts
-use Rattle.groups.proofs.is_high_8_bit_set.Reads as is-high-reads
-use Rattle.uleb128_rec.proofs.reading.behind.Reads as behind-reads
+use Rattle.groups.proofs.is_high_8_bit_set.Reads as is-high
+use Rattle.uleb128_rec.proofs.reading.behind.Reads as behind
 use Rattle.uleb128_rec.proofs.reading.+read_rest.Tie.{close}
 
 abbrev μ : Measures 1 read-rest-kinds.ps ℕ
@@ -22,15 +22,11 @@ abbrev μ : Measures 1 read-rest-kinds.ps ℕ
 abbrev given : ℕ → In 1 read-rest-kinds.ps
 given t = and 1 read-rest-kinds.ps (is 1 read-rest-kinds.ps μ t) read-rest.Pre
 
+abbrev fewer : ℕ → In 1 read-rest-kinds.ps
+fewer t = and 1 read-rest-kinds.ps (falls 1 read-rest-kinds.ps _<_ μ t) read-rest.Pre
+
 abbrev env : ℕ → lts.Claims
-env t = (
-  is-high-reads.Asked,
-  is-high-reads.Learnt,
-  and 1 read-rest-kinds.ps (falls 1 read-rest-kinds.ps _<_ μ t) read-rest.Pre,
-  read-rest.Post,
-  behind-reads.Asked,
-  behind-reads.Learnt,
-)
+env t = (is-high.Asked, is-high.Learnt, fewer t, read-rest.Post, behind.Asked, behind.Learnt)
 
 module _ (t : ℕ) where
   returns : lts.Need-returns (env t) (given t) read-rest.Post

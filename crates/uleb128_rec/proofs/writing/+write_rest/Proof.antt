@@ -7,8 +7,8 @@ use borrow.Fn.Kinds.{In}
 use borrow.Fn.PlainCycle.{Measures, is, falls, and}
 use lib.ListN.{length-set}
 use Rattle.uleb128_rec.proofs.BytesStored.{last-stored, front-stored, fits-one, fits-rest, fits-some, fits-count}
-use Rattle.groups.proofs.set_high_8_bit.Reads as set-high-reads
-use Rattle.groups.proofs.take_low_7_bits.Reads as take-low-reads
+use Rattle.groups.proofs.set_high_8_bit.Reads as set-high
+use Rattle.groups.proofs.take_low_7_bits.Reads as take-low
 use Rattle.uleb128_rec.proofs.writing.+write_rest.{statement}
 use Rattle.uleb128_rec.proofs.writing.write_rest.Reads as write-rest
 use Rattle.uleb128_rec.proofs.writing.write_rest.Kinds as write-rest-kinds
@@ -22,14 +22,7 @@ abbrev given : ℕ → In 1 write-rest-kinds.ps
 given t = and 1 write-rest-kinds.ps (is 1 write-rest-kinds.ps μ t) write-rest.Pre
 
 abbrev env : ℕ → lts.Claims
-env t = (
-  take-low-reads.Asked,
-  take-low-reads.Learnt,
-  and 1 write-rest-kinds.ps (falls 1 write-rest-kinds.ps _<_ μ t) write-rest.Pre,
-  write-rest.Post,
-  set-high-reads.Asked,
-  set-high-reads.Learnt,
-)
+env t = (take-low.Asked, take-low.Learnt, and 1 write-rest-kinds.ps (falls 1 write-rest-kinds.ps _<_ μ t) write-rest.Pre, write-rest.Post, set-high.Asked, set-high.Learnt)
 
 module _ (t : ℕ) where
   slice-write-buffer : lts.Need-slice-write-buffer (env t) (given t) write-rest.Post
