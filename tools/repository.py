@@ -1,4 +1,5 @@
 """What the repository's own text says, for the tools that hold it to itself: crates, functions, definitions, fields of `Claims`, must-fail edits, tables."""
+import functools
 import glob
 import os
 import re
@@ -6,6 +7,7 @@ import re
 os.chdir(os.path.join(os.path.dirname(os.path.abspath(__file__)), ".."))
 
 
+@functools.cache
 def read(path):
     with open(path, encoding="utf-8") as file:
         return file.read()
@@ -87,12 +89,14 @@ class Function:
             self.clauses.append((found[2], text[found.end() + 1 : close].strip()))
             i = close + 1
         self.start = start
+        self.calls = set(re.findall(r"(\w+)\(", self.body))
 
     def clause(self, kind):
         return [text for which, text in self.clauses if which == kind]
 
 
 # The names that a source file has from specs/: (crate, file, name).
+@functools.cache
 def ghosts(path):
     found = {}
     for crate, file, inner in re.findall(r"^ghost use Rattle·(\w+)(?:·specs)?\.specs\.(\w+)\.\{([^}]*)\};", read(path), re.M):
@@ -137,6 +141,7 @@ def definition_text(path):
 
 
 # The text of each name that a file declares at its left edge, and which of them are public.
+@functools.cache
 def declarations(path):
     found, public = {}, set()
     for block in re.split(r"\n(?=\S)", definition_text(path)):
@@ -154,6 +159,7 @@ def names_in(text):
 
 
 # `use A.B.{c, d as e}`: from which file's declarations each name of a file of specs/ comes, as (crate, file, name).
+@functools.cache
 def imports(path):
     found = {}
     crate = path.split("/")[1]
@@ -254,7 +260,7 @@ def tried(edit, all_functions):
             f = todo.pop()
             if f not in inside:
                 inside.append(f)
-                todo += [g for g in own if not g.public and re.search(rf"\b{g.name.split('::')[-1]}\(", f.body)]
+                todo += [g for g in own if not g.public and g.name.split("::")[-1] in f.calls]
         if lines["file"].startswith("src/"):
             at = read(path).find(lines["old"])
             constant = next((m[1] for m in re.finditer(r"\bconst (\w+)[^;]*;[^;]*;", read(path)) if m.start() <= at < m.end()), None)

@@ -16,7 +16,7 @@ use borrow.Author.Tests.{lt-ltb, le-ltb, le-leb, lt-leb, eq-eqb, ne-eqb}
 use lib.ListN.{length, getD, drop, length-drop}
 use Rattle.words.proofs.Cases.{by-order}
 use Rattle.groups.specs.Group.{run}
-use Rattle.groups.specs.Macros.{isHigh8BitSet}
+use Rattle.bits.specs.Macros.{isHigh8BitSet}
 use Rattle.groups.proofs.Run.{run-within, run-more, run-ends}
 use Rattle.groups.proofs.WalkLoop.{byte-at, byte-inside}
 use Rattle.blocks.specs.Block.{isStart}

@@ -1,6 +1,6 @@
 // Blocks: a run of groups and a tail. A cursor steps through it, a group at a time; set-down finds where to begin.
+use bits::is_high_8_bit_set;
 use groups::Value;
-use groups::is_high_8_bit_set;
 use sleb128::ReadI64;
 use sleb128::read_i64;
 use uleb128::ReadU64;

@@ -15,7 +15,7 @@ use Rattle.words.specs.declared.Count.{Count}
 use Rattle.words.specs.declared.Written.{Written}
 use Rattle.words.proofs.Lays.{some-lays}
 use Rattle.words.proofs.OneMeaning.{same-lays}
-use Rattle.groups.specs.Macros.{takeLow7Bits, isHigh8BitSet, setHigh8Bit}
+use Rattle.bits.specs.Macros.{takeLow7Bits, isHigh8BitSet, setHigh8Bit}
 use Rattle.groups.specs.Form.{spell, spellings, spelling}
 use Rattle.groups.specs.Promise.{walked}
 use Rattle.groups.specs.Group.{run, digits}

@@ -20,7 +20,7 @@ use Rattle.words.proofs.OneMeaning.{apart}
 use Rattle.groups.specs.Begins.{Begins}
 use Rattle.groups.specs.Group.{Bytes}
 use Rattle.groups.specs.Width.{read}
-use Rattle.groups.proofs.HighBit.{set-seven}
+use Rattle.bits.proofs.HighBit.{set-seven}
 use Rattle.groups.proofs.Spelling.{Spelled, last, byte, spelled-short}
 use Rattle.uleb128.specs.Unsigned.{form, u64}
 use Rattle.uleb128.proofs.Forms.{form-small, form-large, form-spelled}

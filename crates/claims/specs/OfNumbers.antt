@@ -28,7 +28,8 @@ use Rattle.words.specs.declared.Written.the-variants as W
 use Rattle.groups.specs.Begins.{Begins}
 use Rattle.groups.specs.Form.{growth}
 use Rattle.groups.specs.Group.{Bytes, Group, digits}
-use Rattle.groups.specs.Promise.{Walks, Stores, SpelledLength, TakesLow7Bits, IsHigh8BitSet, SetsHigh8Bit}
+use Rattle.bits.specs.Promise.{TakesLow7Bits, IsHigh8BitSet, SetsHigh8Bit}
+use Rattle.groups.specs.Promise.{Walks, Stores, SpelledLength}
 use Rattle.groups.specs.declared.Value.{Value as ByKind}
 use Rattle.groups.specs.Width.{read, tooMany}
 use Rattle.groups.specs.declared.Walked.{Walked}

@@ -1,7 +1,7 @@
 -- `spec_parse` and `spec_serialize_helper` of the source (`leb128.rs`), ported as they stand, with division and remainder for its
 -- shifts and masks, and emptiness before the first byte. Numbers are those of `UInt`, u64.
 --
---   nBitMaxUnsigned         the source's macro `n_bit_max_unsigned!`; the others are in groups/specs/Macros.antt
+--   nBitMaxUnsigned         the source's macro `n_bit_max_unsigned!`; the others are in bits/specs/Macros.antt
 --   specParse               the count of bytes and the number, or none; `specParseMore`: with a byte in front
 --   specSerializeHelper    the bytes of a number; `specSerializeWithin`: the same, over a bound on how many there can be
 use Prim.Native.Nat.{ℕ, zero, suc, _+_, _-_, _*_, _/_, _^_}
@@ -10,7 +10,7 @@ use mathlib.Core.Bool.{true, false}
 use mathlib.Core.Option.{Option, some, none}
 use lib.Dec.{ltb, leb, eqb}
 use Rattle.words.specs.Answer.{pick, both}
-use Rattle.groups.specs.Macros.{takeLow7Bits, isHigh8BitSet, setHigh8Bit}
+use Rattle.bits.specs.Macros.{takeLow7Bits, isHigh8BitSet, setHigh8Bit}
 
 abbrev pub nBitMaxUnsigned : ℕ → ℕ
 nBitMaxUnsigned n = 2 ^ n - 1

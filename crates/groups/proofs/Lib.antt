@@ -8,4 +8,4 @@ pub mod Exact
 pub mod Stands
 pub mod StoreLoop
 pub mod SignedWords
-pub mod HighBit
+pub mod Parts

@@ -1,5 +1,4 @@
 pub mod Group
-pub mod Macros
 pub mod Width
 pub mod Form
 pub mod Begins

@@ -6,7 +6,6 @@
 --   Walks s at r                  walking them answers r
 --   SpelledLength n r             so many bytes spell the number n
 --   Stores n s at r out           the bytes that spell the number n are laid down at this place of s, or none
---   TakesLow7Bits, IsHigh8BitSet, SetsHigh8Bit   the source's macros, as functions
 use Prim.Native.Nat.{ℕ, _^_}
 use mathlib.Core.List.{List}
 use mathlib.Core.Path.{_≡_}
@@ -19,7 +18,6 @@ use Rattle.words.specs.declared.Count.{Count}
 use Rattle.words.specs.declared.Written.{Written}
 use Rattle.groups.specs.Group.{run, digits}
 use Rattle.groups.specs.Form.{spelling}
-use Rattle.groups.specs.Macros.{takeLow7Bits, isHigh8BitSet, setHigh8Bit}
 use Rattle.groups.specs.declared.Value.{Value}
 use Rattle.groups.specs.declared.Walked.{Walked}
 use Rattle.groups.specs.declared.Walked.the-variants.{Past, Open, Long, Closed}
@@ -41,12 +39,3 @@ SpelledLength n r = Takes (spelling n) r
 
 abbrev pub Stores : Value → List ℕ → ℕ → Written → List ℕ → Type 0
 Stores n s at r out = Lays (spelling n) s at r out
-
-abbrev pub TakesLow7Bits : ℕ → ℕ → Type 0
-TakesLow7Bits v r = r ≡ takeLow7Bits v
-
-abbrev pub IsHigh8BitSet : ℕ → Bool → Type 0
-IsHigh8BitSet b r = r ≡ isHigh8BitSet b
-
-abbrev pub SetsHigh8Bit : ℕ → ℕ → Type 0
-SetsHigh8Bit b r = r ≡ setHigh8Bit b

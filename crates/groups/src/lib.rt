@@ -1,12 +1,8 @@
 // A group of seven-bit bytes, whatever the width of the number: bytes of 128 or more and then one below. One loop walks it and one
 // lays it down, and readers and writers of every width stand on these two.
-mod bits;
 mod reading;
 mod writing;
 
-pub use bits::is_high_8_bit_set;
-pub use bits::set_high_8_bit;
-pub use bits::take_low_7_bits;
 pub use reading::walk;
 use words::Count;
 pub use writing::spelled_length;

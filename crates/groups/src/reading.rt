@@ -1,7 +1,7 @@
 // Walking a group once from a start: readers of every width stand on this loop.
 use crate::Walked;
-use crate::bits::is_high_8_bit_set;
-use crate::bits::take_low_7_bits;
+use bits::is_high_8_bit_set;
+use bits::take_low_7_bits;
 use words::Count;
 use words::Place;
 ghost use Rattle.groups.specs.Promise.{Walks};

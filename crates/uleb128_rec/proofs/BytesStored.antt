@@ -18,8 +18,8 @@ use lib.Seq.{sets, sets-eq, set-comm}
 use Rattle.words.specs.Lays.{Lays}
 use Rattle.words.specs.declared.Written.the-variants.{Bytes}
 use Rattle.words.proofs.Lays.{fits-there}
-use Rattle.groups.specs.Macros.{takeLow7Bits, setHigh8Bit}
-use Rattle.groups.proofs.HighBit.{set-seven}
+use Rattle.bits.specs.Macros.{takeLow7Bits, setHigh8Bit}
+use Rattle.bits.proofs.HighBit.{set-seven}
 use Rattle.uleb128.specs.Unsigned.{form}
 use Rattle.uleb128.proofs.Forms.{form-small, form-large, form-some}
 use Rattle.uleb128_rec.specs.Inner.{WritesRest, RestFits}

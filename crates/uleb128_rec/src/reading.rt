@@ -1,7 +1,7 @@
 // Reading by recursion: it goes on at the next place, and the bytes still allowed fall at each call. It is a port of
 // secure-foundations/vest, `leb128-rec.rs`, `exec_parse_rec_helper` (NOTICE).
-use groups::is_high_8_bit_set;
-use groups::take_low_7_bits;
+use bits::is_high_8_bit_set;
+use bits::take_low_7_bits;
 use uleb128::ReadU64;
 use words::Count;
 use words::Place;

@@ -1,7 +1,7 @@
 // Writing by recursion: it goes on at v div 128, and the bytes still allowed fall at each call. It is a port of
 // secure-foundations/vest, `leb128-rec.rs`, `exec_serialize_rec_helper` (NOTICE).
-use groups::set_high_8_bit;
-use groups::take_low_7_bits;
+use bits::set_high_8_bit;
+use bits::take_low_7_bits;
 use uleb128::length_u64;
 use words::Count;
 use words::Place;

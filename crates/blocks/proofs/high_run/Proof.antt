@@ -2,7 +2,7 @@
 use Prim.Native.Nat.{_-_}
 use borrow.Author.Needs.{needs}
 use lib.ListN.{length}
-use Rattle.groups.proofs.HighBit.{bit-clear, bit-set}
+use Rattle.bits.proofs.HighBit.{bit-clear, bit-set}
 use Rattle.blocks.proofs.HighRun.{Passing, none-passed, one-passed, low-found, end-found}
 use Rattle.blocks.proofs.high_run.Statement.{statement}
 use Rattle.blocks.proofs.high_run.Tie as tie

@@ -3,7 +3,7 @@ use Prim.Native.Nat.{_+_, _*_, _-_, _<_, _^_}
 use native.Mathlib.Omega.{arith}
 use borrow.Author.Needs.{needs, fits-under}
 use lib.ListN.{length}
-use Rattle.groups.proofs.HighBit.{bit-clear, bit-set}
+use Rattle.bits.proofs.HighBit.{bit-clear, bit-set}
 use Rattle.groups.proofs.WalkLoop.{WalkedSoFar, walk-past, none-walked, walk-closes, walk-overruns, one-walked, walk-runs-dry, part-fits, weight-fits}
 use Rattle.groups.proofs.reading.walk.Statement.{statement}
 use Rattle.groups.proofs.reading.walk.Tie as tie

@@ -5,14 +5,14 @@ use native.Mathlib.Omega.{arith}
 use borrow.Author.Needs.{needs, fits-under}
 use borrow.Fn.Kinds.{In}
 use borrow.Fn.PlainCycle.{Measures, is, falls, and}
-use Rattle.groups.proofs.HighBit.{bit-clear, bit-set}
+use Rattle.bits.proofs.HighBit.{bit-clear, bit-set}
 use Rattle.groups.proofs.Rows.{due-passed}
 use Rattle.uleb128_rec.proofs.ByteInFront.{rest-end, rest-last, rest-large, rest-overrun, rest-ahead, reads-joins}
 use Rattle.uleb128_rec.proofs.reading.+read_rest.{statement}
 use Rattle.uleb128_rec.proofs.reading.read_rest.Reads as read-rest
 use Rattle.uleb128_rec.proofs.reading.read_rest.Kinds as read-rest-kinds
 use Rattle.uleb128_rec.proofs.reading.+read_rest.Lts-read_rest as lts
-use Rattle.groups.proofs.is_high_8_bit_set.Reads as is-high
+use Rattle.bits.proofs.is_high_8_bit_set.Reads as is-high
 use Rattle.uleb128_rec.proofs.reading.behind.Reads as behind
 use Rattle.uleb128_rec.proofs.reading.+read_rest.Tie.{close}
 

@@ -7,8 +7,8 @@ use borrow.Fn.Kinds.{In}
 use borrow.Fn.PlainCycle.{Measures, is, falls, and}
 use lib.ListN.{length-set}
 use Rattle.uleb128_rec.proofs.BytesStored.{last-stored, front-stored, fits-one, fits-rest, fits-some, fits-count}
-use Rattle.groups.proofs.set_high_8_bit.Reads as set-high
-use Rattle.groups.proofs.take_low_7_bits.Reads as take-low
+use Rattle.bits.proofs.set_high_8_bit.Reads as set-high
+use Rattle.bits.proofs.take_low_7_bits.Reads as take-low
 use Rattle.uleb128_rec.proofs.writing.+write_rest.{statement}
 use Rattle.uleb128_rec.proofs.writing.write_rest.Reads as write-rest
 use Rattle.uleb128_rec.proofs.writing.write_rest.Kinds as write-rest-kinds

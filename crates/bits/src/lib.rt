@@ -1,5 +1,5 @@
-// The source's macros of the same names, as functions: all that the code knows of a byte's seven bits and of its high bit.
-ghost use Rattle.groups.specs.Promise.{TakesLow7Bits, IsHigh8BitSet, SetsHigh8Bit};
+// A byte's seven bits of value and its high bit: the source's macros of the same names, as functions. No other code knows of 128.
+ghost use Rattle.bits.specs.Promise.{TakesLow7Bits, IsHigh8BitSet, SetsHigh8Bit};
 
 // The low seven bits of a byte, or of any number.
 pub fn take_low_7_bits(v: u64) -> u8

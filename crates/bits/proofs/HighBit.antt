@@ -7,7 +7,7 @@ use mathlib.Core.Path.{_≡_, sym, _∙_}
 use mathlib.Core.Bool.{Bool, true, false, not}
 use native.Mathlib.Omega.{arith}
 use borrow.Author.Tests.{leb-true, leb-false, not-true, not-false}
-use Rattle.groups.specs.Macros.{isHigh8BitSet, setHigh8Bit}
+use Rattle.bits.specs.Macros.{isHigh8BitSet, setHigh8Bit}
 
 pub bit-clear : {b : ℕ} {r : Bool} → r ≡ isHigh8BitSet b → not r ≡ true → b < 128
 bit-clear {b} {r} e t = leb-false 128 b (sym e ∙ not-true r t)
