@@ -98,8 +98,8 @@ fn parts_of(number: Value) -> Parts
 pub fn spelled_length(number: Value) -> Count
     ensures { λ r. ⌜ SpelledLength number r ⌝ }
 {
-    let parts = parts_of(number);
-    parts.count
+    let spelled = parts_of(number);
+    spelled.count
 }
 
 // Seven bits as they are, or below zero their complement.
