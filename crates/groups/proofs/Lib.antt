@@ -8,4 +8,3 @@ pub mod Exact
 pub mod Stands
 pub mod StoreLoop
 pub mod SignedWords
-pub mod Parts

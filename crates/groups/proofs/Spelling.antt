@@ -16,6 +16,7 @@
 --   spelled-group                what spells a number is a group,
 --   spelled-said                 says that number,
 --   spelled-as-groups            and is what `groups` gives for its length
+--   spelled-laid                 so where that is laid down, it is
 --   takes-some                   a length of a spelling is above 0
 --   spelled-short, short-small   it has at most k + 1 bytes exactly where the number is below small, times 128 to the k
 --   last-bounds                  the number is at least what the last byte says, times that byte's weight, and less than one more, times it
@@ -140,6 +141,12 @@ module _ {below : Bool} {small : ℕ} (small-low : small ≤ 128) where
   unfolding groups
   spelled-as-groups (last {m} p) = let e : m % 128 ≡ m = mod-eq-of-lt (omega arith) in rw e
   spelled-as-groups (byte {m} {g} p r) = rw (grown below (length g) m (some-bytes r), ← (spelled-as-groups r))
+
+  -- laying down as many groups of seven bits as it takes lays the spelling down
+  pub spelled-laid : {m n at : ℕ} {g s out : List ℕ} {r : Written} → Spelled below small m g → n ≡ length g
+      → Lays (groups below n m) s at r out → Lays g s at r out
+  spelled-laid {at = at} {s = s} {out = out} {r = r} p e h =
+      subst (λ (b : List ℕ). Lays b s at r out) (rw e (sym (spelled-as-groups p))) h
 
   -- k + 1 bytes are enough exactly for what is below small times 128 to the k
   pub spelled-short : {m : ℕ} {g : List ℕ} (k : ℕ) → Spelled below small m g → m < small * 128 ^ k → length g ≤ suc k

@@ -12,9 +12,9 @@ ghost use mathlib.Core.Path.{_≡_};
 ghost use mathlib.Core.Bool.{false};
 ghost use Prim.Native.Nat.{_<_};
 ghost use lib.Signed.{mag};
-ghost use Rattle.words.specs.Lays.{Takes};
+ghost use Rattle.words.specs.Lays.{Lays, Takes};
 ghost use Rattle.groups.specs.Form.{say, spell, below as is-below};
-ghost use Rattle.groups.specs.Inner.{PartsOf};
+ghost use Rattle.groups.specs.Inner.{groups};
 ghost use Rattle.groups.specs.Promise.{SpelledLength, Stores};
 
 // The values at which a 64-bit number grows by a byte.
@@ -69,37 +69,14 @@ fn length_signed(v: i64) -> Count
     length_unsigned(twice)
 }
 
-// What the loop lays down: count bytes that spell m, and below zero their complement.
-struct Parts {
-    m: u64,
-    below: bool,
-    count: Count,
-}
-
-// What is laid down of the number, by its kind.
-fn parts_of(number: Value) -> Parts
-    ensures { λ r. ⌜ PartsOf number r ⌝ }
-{
-    match number {
-        Value::Unsigned(v) => Parts {
-            m: v,
-            below: false,
-            count: length_unsigned(v),
-        },
-        Value::Signed(v) => Parts {
-            m: magnitude(v),
-            below: below_zero(v),
-            count: length_signed(v),
-        },
-    }
-}
-
 // How many bytes spell the number: 1 to 10.
 pub fn spelled_length(number: Value) -> Count
     ensures { λ r. ⌜ SpelledLength number r ⌝ }
 {
-    let spelled = parts_of(number);
-    spelled.count
+    match number {
+        Value::Unsigned(v) => length_unsigned(v),
+        Value::Signed(v) => length_signed(v),
+    }
 }
 
 // Seven bits as they are, or below zero their complement.
@@ -110,20 +87,17 @@ fn said(bits: u8, below: bool) -> u8
     if below { 127 - bits } else { bits }
 }
 
-// Lays down the bytes that spell the number and answers their count; else 5, and no byte is changed.
-pub fn store(number: Value, buffer: &mut [u8], place: Place) -> Written
-    ensures { λ r. ⌜ Stores number (now (buffer .entry)) (place .0) r (now (buffer .exit)) ⌝ }
+// Lays down count bytes, at least one, that spell m (below zero: that spell -m-1 in two's complement), or none if they don't fit.
+fn lay(m: u64, below: bool, count: Count, buffer: &mut [u8], place: Place) -> Written
+    requires { ⌜ 0 < count .0 ⌝ }
+    ensures { λ r. ⌜ Lays (groups below (count .0) m) (now (buffer .entry)) (place .0) r (now (buffer .exit)) ⌝ }
 {
-    let parts = parts_of(number);
-    let m = parts.m;
-    let below = parts.below;
-    let count = parts.count;
     let at = place.0;
+    let n = count.0;
     let room = has_room(buffer.len(), place, count);
     if !room {
         return Written::Refused(Refusal::NoRoom);
     }
-    let n = count.0;
     let more = n - 1;
     let mut rest = m;
     let mut i = 0;
@@ -140,4 +114,14 @@ pub fn store(number: Value, buffer: &mut [u8], place: Place) -> Written
     let to = at + more;
     buffer[to] = byte;
     Written::Bytes(count)
+}
+
+// Lays down the bytes that spell the number and answers their count; else 5, and no byte is changed.
+pub fn store(number: Value, buffer: &mut [u8], place: Place) -> Written
+    ensures { λ r. ⌜ Stores number (now (buffer .entry)) (place .0) r (now (buffer .exit)) ⌝ }
+{
+    match number {
+        Value::Unsigned(v) => lay(v, false, length_unsigned(v), buffer, place),
+        Value::Signed(v) => lay(magnitude(v), below_zero(v), length_signed(v), buffer, place),
+    }
 }

@@ -1,47 +1,33 @@
--- `groups::store` meets its promise: the loop holds `Stored` of the number's parts, and each way out is a law of `StoreLoop`.
-use Prim.Native.Nat.{_-_}
+-- `groups::store` meets its promise: as many groups of seven bits as the spelling is long are the spelling, by the number's kind.
 use native.Mathlib.Omega.{arith}
 use borrow.Author.Needs.{needs}
-use borrow.Author.Tests.{not-true, not-false}
-use lib.ListN.{length-set}
-use Rattle.words.proofs.Lays.{room-refused, room-there}
-use Rattle.groups.proofs.Parts.{parts-length, parts-laid}
-use Rattle.groups.proofs.StoreLoop.{Stored, none-stored, one-stored, all-stored}
+use Rattle.groups.proofs.Spelling.{spelled, spelled-laid, takes-some}
+use Rattle.groups.proofs.SignedWords.{laid-back}
 use Rattle.groups.proofs.writing.store.Statement.{statement}
 use Rattle.groups.proofs.writing.store.Tie as tie
 
-abbrev Inv-loop : tie.InvT-loop
-Inv-loop buffer₀ m below count at room n more rest₀ i₀ buffer rest i = Stored below more m buffer₀ at buffer rest i
+lay-requires : tie.Need-lay-requires
+lay-requires c κs = takes-some _ _ _ (omega arith) (c .before .length-unsigned .ensures)
 
-abbrev μ-loop : tie.MeasureT-loop
-μ-loop buffer₀ m below count at room n more rest₀ i₀ buffer rest i = more - i
+lay-requires-2 : tie.Need-lay-requires-2
+lay-requires-2 c κs = takes-some _ _ _ (omega arith) (c .before .length-signed .ensures)
 
-returns : tie.Need-returns Inv-loop μ-loop
-returns c = room-refused _ _ _ (c .before .has-room .ensures) (parts-length (c .before .before .before .parts-of .ensures) .is) (not-true _ (c .if1 .taken))
+returns : tie.Need-returns
+returns c =
+    let laid = c .before .before in
+    rw (laid .before .before .before .before .number .given .1)
+    (spelled-laid (omega arith) (spelled _ 128 (omega arith) _) (laid .before .before .length-unsigned .ensures .is) (laid .lay .ensures))
 
-loop-holds : tie.Need-loop-holds Inv-loop μ-loop
-loop-holds c =
-    none-stored _ _ _ _ _
-    (omega (arith, c .before .before .before .parts-of .ensures .some, room-there (c .before .has-room .ensures) (not-false _ (c .if1 .left))))
-
-loop-again : tie.Need-loop-again Inv-loop μ-loop
-loop-again c =
-    one-stored _ _ _ _ _ (c .before .before .before .before .loop .inv) (search needs)
-    (c .before .before .take-low-7-bits .ensures) (c .before .said .ensures) (c .set-high-8-bit .ensures)
-
-same-length : tie.Need-same-length Inv-loop μ-loop
-same-length c = simp length-set (c .before .before .before .loop .inv .kept)
-
-returns-2 : tie.Need-returns-2 Inv-loop μ-loop
+returns-2 : tie.Need-returns-2
 returns-2 c =
-    let head = c .before .before .before in
-    parts-laid (head .before .before .before .before .parts-of .ensures)
-    (rw (c .said2 .ensures, c .before .take-low-7-bits2 .ensures)
-    (all-stored _ _ _ _ _ (head .loop .inv) _ (omega (arith, head .before .before .before .before .parts-of .ensures .some)) (c .before .before .loop-test .left)))
+    let laid = c .before .before in
+    let measured = laid .before .before in
+    rw (measured .before .before .before .before .number2 .given .1)
+    (laid-back (measured .before .before .before .before .number2 .given .0 .0) (measured .before .before .before .known-told2 .given .0 .1) (measured .before .below-zero .ensures) (measured .before .before .magnitude .ensures)
+    (measured .length-signed .ensures) (laid .lay2 .ensures))
 
 pub store-spec : {M : Type 1} → statement M
 store-spec =
     tie.close
-    (tie.spec Inv-loop μ-loop (λ c κs. search needs) (λ c κs. search needs) returns (λ c. search needs) loop-holds (λ c κs. search needs)
-    (λ c κs. search needs) (λ c κs. search needs) (λ c. search needs) (λ c. search needs) (λ c. search needs) (λ c. search needs)
-    loop-again (λ c κs. search needs) (λ c κs. search needs) (λ c. search needs) (λ c. search needs) same-length returns-2)
+    (tie.spec (λ c. search needs) (λ c κs. search needs) lay-requires (λ c. search needs) (λ c κs. search needs) (λ c κs. search needs)
+    (λ c κs. search needs) lay-requires-2 (λ c. search needs) returns (λ c. search needs) returns-2)
