@@ -277,6 +277,18 @@ def tried(edit, all_functions):
 
 # ---- documents
 
+# The rules of docs/RULES.md in their order, (heading, name): a rule has its name in bold at the front of its paragraph or of its row.
+def rules():
+    found, heading = [], ""
+    for line in read("docs/RULES.md").split("\n"):
+        named = re.match(r"(?:- |\| )\*\*([a-z0-9-]+)\*\*", line)
+        if line.startswith("#"):
+            heading = line.lstrip("# ")
+        elif named:
+            found.append((heading, named[1]))
+    return found
+
+
 # The rows of the tables of a document, under the heading that they stand below: the cells of each, without the tables' heads.
 def tables(path):
     found, heading = {}, ""
