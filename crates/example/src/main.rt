@@ -1,0 +1,189 @@
+// How the number code is used from a crate of one's own: writing, reading, what a turn means, stepping, set-down, strict
+// reading. Every answer is taken apart by a `match` and becomes a line of standard output. README.md shows parts of this file.
+use blocks::Cursor;
+use blocks::Rule;
+use blocks::SetDown;
+use blocks::Step;
+use groups::Value;
+use libc::STDOUT_FILENO;
+use lists::ReadList;
+use sleb128::ReadI64;
+use turns::Turn;
+use uleb128::ReadU64;
+use words::Count;
+use words::Place;
+use words::Refusal;
+use words::Written;
+
+// Writes an entry's three numbers one behind the other: the first at the place, each further one as many bytes behind it as
+// were counted so far. A refused number changes no byte, but those before it stand in the buffer by then: the entry counts as
+// a whole or not at all.
+fn write_entry(
+    segment: u64,
+    sentence: u64,
+    quarters: i64,
+    buffer: &mut [u8],
+    place: Place,
+) -> Written {
+    let at = place.0;
+    let first = uleb128::write_u64(segment, buffer, place);
+    let Written::Bytes(one) = first else {
+        return first;
+    };
+    let counted = one.0;
+    let behind = at + counted;
+    let second = uleb128::write_u64(sentence, buffer, Place(behind));
+    let Written::Bytes(two) = second else {
+        return second;
+    };
+    let counted = counted + two.0;
+    let behind = at + counted;
+    let third = sleb128::write_i64(quarters, buffer, Place(behind));
+    let Written::Bytes(three) = third else {
+        return third;
+    };
+    let counted = counted + three.0;
+    Written::Bytes(Count(counted))
+}
+
+fn write(quarters: i64, buffer: &mut [u8], place: Place) {
+    match write_entry(12857, 0, quarters, buffer, place) {
+        Written::Bytes(count) => say_count(count),
+        Written::Refused(refusal) => say_refused(refusal),
+    }
+}
+
+// Reads an unsigned number at a place. The next one is count bytes behind it.
+fn read_number(bytes: &[u8], place: Place) {
+    match uleb128::read_u64(bytes, place) {
+        ReadU64::Number(v, count) => {
+            say_number(v);
+            say_count(count);
+        }
+        ReadU64::Refused(refusal) => say_refused(refusal),
+    }
+}
+
+// Reads a signed number at a place, as quarter turns.
+fn read_turn(bytes: &[u8], place: Place) {
+    match sleb128::read_i64(bytes, place) {
+        ReadI64::Number(quarters, _) => say_turn(quarters),
+        ReadI64::Refused(refusal) => say_refused(refusal),
+    }
+}
+
+fn say_turn(quarters: i64) {
+    match turns::means(quarters) {
+        Turn::Tighten => line(b"tighten\n"),
+        Turn::Loosen => line(b"loosen\n"),
+        Turn::Hold => line(b"hold\n"),
+    }
+}
+
+// Steps through a block. Where it is damaged there is a gap, and the groups behind it are read as ever. A block of n bytes has
+// at most n groups, so n + 1 steps come to its end: they are counted down because a loop has to be proved to end.
+fn step_through(block: &[u8], from: Cursor) {
+    let mut cursor = from;
+    let mut left = block.len() + 1;
+    while 0 < left {
+        left -= 1;
+        match cursor.step(block, Rule::Unsigned) {
+            Step::Number(value, _, next) => {
+                say_value(value);
+                cursor = next;
+            }
+            Step::Gap(reason, _, next) => {
+                say_gap(reason);
+                cursor = next;
+            }
+            Step::Tail(count, _) => {
+                say_tail(count);
+                return;
+            }
+            Step::Finished(_) => {
+                return;
+            }
+            Step::Refused(refusal) => {
+                say_refused(refusal);
+                return;
+            }
+        }
+    }
+}
+
+// The same from any place on, be it in the middle of a group: set-down finds the next start.
+fn step_from(block: &[u8], place: Place) {
+    match blocks::set_down(block, place) {
+        SetDown::At(cursor) => step_through(block, cursor),
+        SetDown::Refused(refusal) => say_refused(refusal),
+    }
+}
+
+// Reads all numbers of a block into a slice, or none of them if anything in the block is damaged.
+fn read_all(block: &[u8], numbers: &mut [u64]) {
+    match lists::read_strict(block, numbers) {
+        ReadList::Filled(count) => say(b"numbers ", count.0 as u64),
+        ReadList::Refused(refusal) => say_refused(refusal),
+    }
+}
+
+fn line(text: &[u8]) {
+    io::write_all(STDOUT_FILENO, text);
+}
+
+fn say(what: &[u8], number: u64) {
+    line(what);
+    io::print_decimal(STDOUT_FILENO, number);
+    line(b"\n");
+}
+
+fn say_number(v: u64) {
+    say(b"number ", v);
+}
+
+// A step by the unsigned rule has an unsigned value, one by the signed rule a signed one.
+fn say_value(value: Value) {
+    match value {
+        Value::Unsigned(v) => say_number(v),
+        Value::Signed(quarters) => say_turn(quarters),
+    }
+}
+
+fn say_count(count: Count) {
+    say(b"count ", count.0 as u64);
+}
+
+fn say_tail(count: Count) {
+    say(b"tail ", count.0 as u64);
+}
+
+fn say_gap(reason: Refusal) {
+    say(b"gap ", words::number(reason) as u64);
+}
+
+fn say_refused(refusal: Refusal) {
+    say(b"refused ", words::number(refusal) as u64);
+}
+
+fn show_entry(buffer: &mut [u8]) {
+    write(-2, buffer, Place(3));
+    write(-2, buffer, Place(7));
+    read_number(buffer, Place(3));
+    read_number(buffer, Place(5));
+    read_turn(buffer, Place(6));
+    read_number(buffer, Place(9));
+}
+
+fn show_block(block: &[u8], numbers: &mut [u64]) {
+    step_through(block, Cursor { place: Place(0) });
+    step_from(block, Place(2));
+    read_all(block, numbers);
+}
+
+fn main() {
+    let mut buffer = [0u8; 8];
+    let mut numbers = [0u64; 4];
+    show_entry(&mut buffer);
+    show_block(b"\x05\x80\x00\x80\x01\x83", &mut numbers);
+    show_block(b"\x05\x80\x01", &mut numbers);
+}
