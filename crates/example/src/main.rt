@@ -6,6 +6,7 @@ use blocks::SetDown;
 use blocks::Step;
 use groups::Value;
 use libc::STDOUT_FILENO;
+use lists::Numbers;
 use lists::ReadList;
 use sleb128::ReadI64;
 use turns::Turn;
@@ -122,7 +123,7 @@ fn step_from(block: &[u8], place: Place) {
 // Reads all numbers of a block into a slice, or none of them if anything in the block is damaged.
 fn read_all(block: &[u8], numbers: &mut [u64]) {
     match lists::read_strict(block, numbers) {
-        ReadList::Filled(count) => say(b"numbers ", count.0 as u64),
+        ReadList::Filled(count) => say_numbers(count),
         ReadList::Refused(refusal) => say_refused(refusal),
     }
 }
@@ -153,6 +154,10 @@ fn say_count(count: Count) {
     say(b"count ", count.0 as u64);
 }
 
+fn say_numbers(count: Numbers) {
+    say(b"numbers ", count.0 as u64);
+}
+
 fn say_tail(count: Count) {
     say(b"tail ", count.0 as u64);
 }
@@ -165,25 +170,33 @@ fn say_refused(refusal: Refusal) {
     say(b"refused ", words::number(refusal) as u64);
 }
 
-fn show_entry(buffer: &mut [u8]) {
+fn show_writing(buffer: &mut [u8]) {
     write(-2, buffer, Place(3));
     write(-2, buffer, Place(7));
-    read_number(buffer, Place(3));
-    read_number(buffer, Place(5));
-    read_turn(buffer, Place(6));
-    read_number(buffer, Place(9));
 }
 
-fn show_block(block: &[u8], numbers: &mut [u64]) {
+fn show_reading(bytes: &[u8]) {
+    read_number(bytes, Place(3));
+    read_number(bytes, Place(5));
+    read_turn(bytes, Place(6));
+    read_number(bytes, Place(9));
+}
+
+fn show_entry() {
+    let mut buffer = [0u8; 8];
+    show_writing(&mut buffer);
+    show_reading(&buffer);
+}
+
+fn show_block(block: &[u8]) {
+    let mut numbers = [0u64; 4];
     step_through(block, Cursor { place: Place(0) });
     step_from(block, Place(2));
-    read_all(block, numbers);
+    read_all(block, &mut numbers);
 }
 
 fn main() {
-    let mut buffer = [0u8; 8];
-    let mut numbers = [0u64; 4];
-    show_entry(&mut buffer);
-    show_block(b"\x05\x80\x00\x80\x01\x83", &mut numbers);
-    show_block(b"\x05\x80\x01", &mut numbers);
+    show_entry();
+    show_block(b"\x05\x80\x00\x80\x01\x83");
+    show_block(b"\x05\x80\x01");
 }
