@@ -1,7 +1,7 @@
 //! Document 01's listing, and the inputs that the repository holds for it.
 //!
-//!   listing   the text for an input
-//!   input     an input by its name
+//!   listing         the text for an input
+//!   INPUTS, input   the names of inputs, and an input by its name
 
 use crate::blocks::{meaning, parts, Step, MOST};
 use crate::numbers::{Rule, NOT_SHORTEST, OVERFLOW, TOO_LONG};
@@ -25,6 +25,10 @@ pub fn listing(input: &[u8]) -> String {
     }
     text
 }
+
+pub const INPUTS: [&str; 7] = [
+    "document", "mended", "empty", "tail", "limit", "above", "long",
+];
 
 pub fn input(name: &str) -> Option<Vec<u8>> {
     let at_3 =

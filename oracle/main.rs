@@ -6,10 +6,13 @@
 //!   oracle list                 reads frames, writes each as a line to read
 //!   oracle listing              reads bytes, writes their listing
 //!   oracle listing-input NAME   writes the bytes of an input for the listing
+//!   oracle try-list few COMMAND [WORD...]    runs a command on inputs for the listing, and says
+//!   oracle try-list many COMMAND [WORD...]   where it writes something else
 //!
 //! frames.rs has the layout of a frame; numbers.rs and blocks.rs the rules; answers.rs the line for
 //! each op and listing.rs the listing; known.rs the answers written down by hand; cases.rs and
-//! block_cases.rs the cases, random.rs what they draw from a seed.
+//! block_cases.rs the cases, random.rs what they draw from a seed; trying.rs the inputs that `list`
+//! is run on.
 //! Built by: rustc -O --edition 2021 -o target/oracle/oracle oracle/main.rs
 
 mod answers;
@@ -21,13 +24,15 @@ mod known;
 mod listing;
 mod numbers;
 mod random;
+mod trying;
 
 use frames::Item;
 use std::io::{self, BufWriter, Read, Write};
 use std::process::ExitCode;
+use trying::Try;
 
-const USAGE: &str =
-    "usage: oracle cases | cases large | answers | list | listing | listing-input NAME";
+const USAGE: &str = "usage: oracle cases | cases large | answers | list | listing \
+    | listing-input NAME | try-list few COMMAND | try-list many COMMAND";
 
 fn main() -> ExitCode {
     let words: Vec<String> = std::env::args().skip(1).collect();
@@ -39,6 +44,8 @@ fn main() -> ExitCode {
         ["list"] => write_lines(frames::list),
         ["listing"] => write_listing(),
         ["listing-input", name] => write_listing_input(name),
+        ["try-list", "few", _, ..] => try_list(&words[2..], trying::few()),
+        ["try-list", "many", _, ..] => try_list(&words[2..], trying::many()),
         _ => Err(USAGE.to_string()),
     };
     match done {
@@ -74,6 +81,19 @@ fn write_listing_input(name: &str) -> Result<(), String> {
     known::check()?;
     let input = listing::input(name).ok_or(format!("no input for the listing is named {name}"))?;
     write_bytes(&input)
+}
+
+fn try_list(command: &[&str], tries: Vec<Try>) -> Result<(), String> {
+    known::check()?;
+    let faults = trying::hold(command, &tries)?;
+    for fault in faults.iter().take(5) {
+        println!("list on {fault}");
+    }
+    println!("list: {} inputs, {} differ", tries.len(), faults.len());
+    if faults.is_empty() {
+        return Ok(());
+    }
+    Err("list doesn't write what the oracle does".to_string())
 }
 
 fn read_all() -> Result<Vec<u8>, String> {
