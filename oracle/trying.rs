@@ -7,8 +7,10 @@
 use crate::blocks::MOST;
 use crate::listing::{input, listing, INPUTS};
 use crate::random::Random;
+use std::ffi::{c_int, c_ulong};
 use std::io::Write;
-use std::process::{Command, Output, Stdio};
+use std::os::fd::AsRawFd;
+use std::process::{ChildStdin, Command, Output, Stdio};
 use std::sync::atomic::{AtomicUsize, Ordering};
 use std::thread;
 use std::time::Duration;
@@ -25,9 +27,19 @@ pub struct Try {
     feed: Feed,
 }
 
-/// At so many pieces the writer waits, long enough for the program to start and read what is there.
+/// So often the writer waits until all that it has written is read: the program then reads less
+/// than it asks for.
 const PAUSES: usize = 3;
-const PAUSE: Duration = Duration::from_millis(20);
+
+/// Above the limit the program may leave bytes unread. So many milliseconds are waited for it.
+const PATIENCE: usize = 200;
+
+extern "C" {
+    fn ioctl(fd: c_int, request: c_ulong, ...) -> c_int;
+}
+
+/// Linux's request for how many bytes of a pipe are unread.
+const FIONREAD: c_ulong = 0x541b;
 
 /// The named inputs, and every length up to 40.
 pub fn few() -> Vec<Try> {
@@ -174,12 +186,23 @@ fn run(command: &[&str], one: &Try) -> Result<Output, String> {
                     return;
                 }
                 if number % count.div_ceil(PAUSES) == 0 && number + 1 < count {
-                    thread::sleep(PAUSE);
+                    wait_until_read(&pipe);
                 }
             }
         });
         child.wait_with_output().map_err(|e| e.to_string())
     })
+}
+
+fn wait_until_read(pipe: &ChildStdin) {
+    for _ in 0..PATIENCE {
+        let mut unread: c_int = 0;
+        // Sound: the pipe is open, and the request stores one int.
+        if unsafe { ioctl(pipe.as_raw_fd(), FIONREAD, &mut unread) } != 0 || unread == 0 {
+            return;
+        }
+        thread::sleep(Duration::from_millis(1));
+    }
 }
 
 /// What the program says on standard error. It is settled between the program and its callers, and
