@@ -144,28 +144,13 @@ check() { # CRATE...
     TMPDIR=$room exec setsid rt check "$@" </dev/null 1>&2
 }
 
-# Whether rt would find all up to date, where it can't write: it is asked in a copy, with a prover that proves nothing.
-is_built() { # PROGRAM...
-    local crate part
-    for crate in "$@"; do [ -x "$root/target/bin/$crate" ] || return 1; done
-    mkdir -p "$room/copy/target" "$room/kit/on/$(uname -m)/bin"
-    cp -R --no-preserve=mode "$root/crates.txt" "$root/crates" "$room/copy"
-    cp -R --no-preserve=mode "$root/target/stamp" "$room/copy/target"
-    for part in "$kit"/* "$kit/on/$(uname -m)"/*; do
-        [ -e "$room/kit/${part#"$kit"/}" ] || ln -s "$part" "$room/kit/${part#"$kit"/}"
-    done
-    ln -s "$(type -P false)" "$room/kit/on/$(uname -m)/bin/rattle"
-    (cd "$room/copy" && RATTLE_HOME=$room/kit rt check "$@") >/dev/null 2>&1 </dev/null
-}
-
 build() { # PROGRAM...
     mkdir -p "$root/target" 2>/dev/null || true
     # With a record or a log that it can't write, rt would take the last verdict for today's.
-    if [ -z "$(find "$root/target" -maxdepth 2 ! -writable -print -quit 2>&1)" ]; then
-        prove "$@"
-    elif ! is_built "$@" 2>/dev/null; then
-        stop 1 "there is something to prove and build, and $root/target can't be written"
+    if [ -n "$(find "$root/target" -maxdepth 2 ! -writable -print -quit 2>&1)" ]; then
+        stop 1 "programs are built in $root/target, which can't be written"
     fi
+    prove "$@"
     take "$@"
     exec 9>&-
 }
