@@ -16,39 +16,17 @@ use words::Place;
 use words::Refusal;
 use words::Written;
 
-// Writes an entry's three numbers one behind the other: the first at the place, each further one as many bytes behind it as
-// were counted so far. A refused number changes no byte, but those before it stand in the buffer by then: the entry counts as
-// a whole or not at all.
-fn write_entry(
-    segment: u64,
-    sentence: u64,
-    quarters: i64,
-    buffer: &mut [u8],
-    place: Place,
-) -> Written {
-    let at = place.0;
-    let first = uleb128::write_u64(segment, buffer, place);
-    let Written::Bytes(one) = first else {
-        return first;
-    };
-    let counted = one.0;
-    let behind = at + counted;
-    let second = uleb128::write_u64(sentence, buffer, Place(behind));
-    let Written::Bytes(two) = second else {
-        return second;
-    };
-    let counted = counted + two.0;
-    let behind = at + counted;
-    let third = sleb128::write_i64(quarters, buffer, Place(behind));
-    let Written::Bytes(three) = third else {
-        return third;
-    };
-    let counted = counted + three.0;
-    Written::Bytes(Count(counted))
+// Writes an unsigned number at a place. The next one goes count bytes behind it; a refused write has changed no byte.
+fn write_number(v: u64, buffer: &mut [u8], place: Place) {
+    match uleb128::write_u64(v, buffer, place) {
+        Written::Bytes(count) => say_count(count),
+        Written::Refused(refusal) => say_refused(refusal),
+    }
 }
 
-fn write(quarters: i64, buffer: &mut [u8], place: Place) {
-    match write_entry(12857, 0, quarters, buffer, place) {
+// Writes quarter turns at a place.
+fn write_turn(quarters: i64, buffer: &mut [u8], place: Place) {
+    match sleb128::write_i64(quarters, buffer, place) {
         Written::Bytes(count) => say_count(count),
         Written::Refused(refusal) => say_refused(refusal),
     }
@@ -171,18 +149,19 @@ fn say_refused(refusal: Refusal) {
 }
 
 fn show_writing(buffer: &mut [u8]) {
-    write(-2, buffer, Place(3));
-    write(-2, buffer, Place(7));
+    write_number(12857, buffer, Place(3));
+    write_turn(-2, buffer, Place(5));
+    write_turn(128, buffer, Place(7));
 }
 
 fn show_reading(bytes: &[u8]) {
     read_number(bytes, Place(3));
-    read_number(bytes, Place(5));
-    read_turn(bytes, Place(6));
+    read_turn(bytes, Place(5));
+    read_number(bytes, Place(6));
     read_number(bytes, Place(9));
 }
 
-fn show_entry() {
+fn show_numbers() {
     let mut buffer = [0u8; 8];
     show_writing(&mut buffer);
     show_reading(&buffer);
@@ -196,7 +175,7 @@ fn show_block(block: &[u8]) {
 }
 
 fn main() {
-    show_entry();
+    show_numbers();
     show_block(b"\x05\x80\x00\x80\x01\x83");
     show_block(b"\x05\x80\x01");
 }
