@@ -1,35 +1,29 @@
 // The op that lists a block: the text of its listing, in hexadecimal.
 use crate::hex::hex;
 use crate::lines::says;
-use listing::Listing;
-use listing::Next;
-use listing::next_line;
+use listing::TEXT_ROOM;
+use listing::lay_listing;
 use words::Count;
 
-// A buffer of so many bytes holds every line of a listing.
-const LINE_ROOM: usize = 64;
-
-// Nothing is refused: the buffer has room for each line, and a listing goes from start to start.
-fn text(block: &[u8], line: &mut [u8], out: &mut [u8], filled: Count) -> Count {
-    let mut so_far = filled;
-    let mut listing = Listing::Top;
-    loop {
-        match next_line(listing, block, line) {
-            Next::Line(count, behind) => {
-                let n = count.0;
-                so_far = hex(&line[..n], out, so_far);
-                listing = behind;
-            }
-            _ => {
-                return so_far;
-            }
-        }
+// The first bytes of the text, in hexadecimal.
+fn text_hex(text: &[u8], count: Count, out: &mut [u8], filled: Count) -> Count {
+    let n = count.0;
+    if text.len() < n {
+        return filled;
     }
+    hex(&text[0..n], out, filled)
+}
+
+// The line for the listing of a block, whose text goes by way of a buffer. It takes the array whole: to lend one as a slice where
+// it is made costs the check a step for each of its bytes.
+fn list_by(block: &[u8], text: &mut [u8; TEXT_ROOM], out: &mut [u8]) -> Count {
+    let listed = lay_listing(block, text);
+    let named = says(b"text ").lay(out, Count(0));
+    text_hex(text, listed, out, named)
 }
 
 // The line for the listing of a block.
 pub(crate) fn list(block: &[u8], out: &mut [u8]) -> Count {
-    let mut line = [0u8; LINE_ROOM];
-    let named = says(b"text ").lay(out, Count(0));
-    text(block, &mut line, out, named)
+    let mut text = [0u8; TEXT_ROOM];
+    list_by(block, &mut text, out)
 }

@@ -11,6 +11,7 @@ mod StrictRows
 mod ReaderSetDown
 mod Damage
 mod Text
+mod Program
 mod OfNumbers
 mod OfBlocks
 mod OfDamage

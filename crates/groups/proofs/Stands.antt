@@ -9,7 +9,7 @@
 --   form-read                  where the bytes begin with a form that the width accepts, with its value, the number is read
 --   read-form                  and back, from a group that is such a form
 --   count-within               a group that stands so has at most the most bytes
---   reading-count              the count that is given is that of the bytes through the first below 128
+--   reading-value, reading-count   the number that is given is the value of the bytes through the first below 128, and the count is theirs
 --   reading-alone              where some byte is below 128, reading all the bytes is reading those through the first such
 use Prim.Native.Nat.{ℕ, suc, _+_, _-_, _≤_, _<_}
 use mathlib.Core.Path.{_≡_, refl, ap, sym, _∙_}
@@ -158,10 +158,17 @@ count-within w {n = n} sound g =
     clash (g .not-large) t)
     (λ l. l)
 
--- the count is that of the bytes through the first below 128
-pub reading-count : {A : Type 0} (w : Width A) (l : List ℕ) {v : A} {n : ℕ} → reading w l ≡ gives (v, n) → n ≡ run l + 1
-unfolding reading
-reading-count w l e = paired (accept (tooMany w l) (by 3) _ (accept (tooLarge w l) (by 2) _ (accept (runsOut w l) (by 1) _ e .1) .1) .1) .1
+-- a number is the value, and the count the length, of the bytes through the first below 128
+module _ {A : Type 0} (w : Width A) (l : List ℕ) {v : A} {n : ℕ} (e : reading w l ≡ gives (v, n)) where
+  reading-gave : (v ≡ w .value (take (run l + 1) l)) × (n ≡ run l + 1)
+  unfolding reading
+  reading-gave = paired (accept (tooMany w l) (by 3) _ (accept (tooLarge w l) (by 2) _ (accept (runsOut w l) (by 1) _ e .1) .1) .1)
+
+  pub reading-value : v ≡ w .value (take (run l + 1) l)
+  reading-value = reading-gave .0
+
+  pub reading-count : n ≡ run l + 1
+  reading-count = reading-gave .1
 
 -- a group read where it stands is read as it is alone
 pub reading-alone : {A : Type 0} (w : Width A) (l : List ℕ) → Bytes l → run l < length l → reading w l ≡ reading w (take (run l + 1) l)

@@ -1,4 +1,4 @@
-pub mod Lines
-pub mod TextLeft
-pub mod LineGiven
-pub mod OneNext
+pub mod Faults
+pub mod RowsLeft
+pub mod TextFits
+pub mod Laid

@@ -1,2 +1,4 @@
 pub mod Listing
+pub mod Program
 pub mod Promise
+pub mod Inner

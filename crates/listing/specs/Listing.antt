@@ -1,14 +1,12 @@
--- Document 01, "Bytes to try": the listing of a block, as bytes.
+-- The rules on the listing of a block (docs/RULES.md, "Listing"), as bytes.
 --
 --   row p what v       the line `p what v`
 --   fault k            the word for the fault of a group, 2 or 3
 --   groupRow p g       that of the group g at the place p: its number, or else its fault and its length; `rowOf`: from its reading
 --   rows p gs t        those of the groups gs and of the tail t, one after another, from the place p on
 --   text s             the whole listing of an input s: the header and the rows; above the limit the one line `refused 7`
---   lineRoom           a buffer of so many bytes holds every line
---   Stage              how far a listing has come: at its top, at a place of the block, or ended
---   Coming, next s g   what comes next: a line and the stage behind it, nothing, or a refusal; `lineOf`: from what a step says
-use Prim.Native.Nat.{ℕ, _+_}
+--   textRoom           a buffer of so many bytes holds every listing
+use Prim.Native.Nat.{ℕ, _+_, _*_}
 use mathlib.Core.List.{List, [], _∷_, _++_}
 use lib.Dec.{ltb, eqb}
 use lib.ListN.{length}
@@ -16,10 +14,8 @@ use Rattle.words.specs.Answer.{pick, Answer, gives, refused, Why, numberIn}
 use Rattle.texts.specs.Texts.{ascii, decimal}
 use Rattle.groups.specs.Width.{reading}
 use Rattle.uleb128.specs.Unsigned.{u64}
-use Rattle.blocks.specs.Block.{unsigned, signed, Stepped, number, gap, tail, finished, stepping, blockLimit}
-use Rattle.blocks.specs.Block as B
+use Rattle.blocks.specs.Block.{blockLimit}
 use Rattle.blocks.specs.GroupsAndTail.{cut}
-use Rattle.blocks.specs.declared.Rule.the-variants.{Unsigned}
 
 unfoldable pub row : ℕ → List ℕ → ℕ → List ℕ
 row p what v = decimal p ++ ascii " " ++ what ++ ascii " " ++ decimal v ++ ascii "\n"
@@ -45,29 +41,6 @@ text s =
     pick (ltb blockLimit (length s)) (ascii "refused 7\n")
     (ascii "place what value\n" ++ rows 0 (cut s .groups) (cut s .tail))
 
-abbrev pub lineRoom : ℕ
-lineRoom = 64
-
-pub data Stage : Type 0 where
-  top : Stage
-  at : ℕ → Stage
-  ended : Stage
-
-pub data Coming (A : Type 0) : Type 0 where
-  line : A → Stage → Coming A
-  over : Coming A
-  refuses : Why → Coming A
-
--- the line of what a step at the place p says
-abbrev pub lineOf : ℕ → Stepped → Coming (List ℕ)
-lineOf p (number (unsigned v) n q) = line (row p (ascii "number") v) (at q)
-lineOf p (number (signed v) n q) = over
-lineOf p (gap k n q) = line (row p (fault k) n) (at q)
-lineOf p (tail n q) = line (row p (ascii "tail") n) ended
-lineOf p (finished q) = over
-lineOf p (B.refuses k) = refuses k
-
-abbrev pub next : List ℕ → Stage → Coming (List ℕ)
-next s top = pick (ltb blockLimit (length s)) (line (ascii "refused 7\n") ended) (line (ascii "place what value\n") (at 0))
-next s (at p) = lineOf p (stepping Unsigned s p)
-next s ended = over
+-- the header has 17 bytes, and each byte of a block makes at most 28 of its rows
+abbrev pub textRoom : ℕ
+textRoom = 17 + 28 * blockLimit

@@ -1,10 +1,11 @@
--- The digits that `io::decimal` makes are those of `decimal`, and a number of 64 bits has 20 at most.
+-- The digits that `io::decimal` makes are those of `decimal`, and how many a number has.
 --
 --   DigitsOf v l                   l is the digits of v
 --   decimal-small, decimal-large   the two equations of `decimal`
 --   lays-decimal                   where the fewest digits that hold a number, at least one, are laid down, `decimal` of it is
---   at-most-20                     how many a number of 64 bits has
-use Prim.Native.Nat.{ℕ, zero, suc, _+_, _-_, _/_, _%_, _^_, _≤_, _<_}
+--   decimal-within                 a number below 10 ^ k has at most k of them
+--   three-digits-each              one below 128 ^ k at most 3 * k
+use Prim.Native.Nat.{ℕ, zero, suc, _+_, _-_, _*_, _/_, _%_, _^_, _≤_, _<_}
 use mathlib.Core.Path.{_≡_, refl, ap}
 use mathlib.Core.List.{List, [], _∷_, _++_}
 use native.Mathlib.Nat.{pow-succ'}
@@ -74,5 +75,20 @@ at-most k (one h) b = omega arith
 at-most zero (more h p) b = absurd (omega arith)
 at-most (suc k) (more {v} {l} h p) b = rw (length-append l ((48 + v % 10) ∷ [])) (omega (arith, at-most k p (omega (arith, pow-succ' 10 (suc k)))))
 
-pub at-most-20 : (v : ℕ) → v < 2 ^ 64 → length (decimal v) ≤ 20
-at-most-20 v h = at-most 19 (spelled v) (omega arith)
+pub decimal-within : (k v : ℕ) → v < 10 ^ suc k → length (decimal v) ≤ suc k
+decimal-within k v h = at-most k (spelled v) h
+
+-- three digits for seven bits: 128 < 1000
+three-each : (k : ℕ) → 128 ^ k ≤ 10 ^ (3 * k)
+three-each zero = omega arith
+three-each (suc k) =
+    let e : 3 * suc k ≡ suc (suc (suc (3 * k))) = omega arith in
+    rw e (omega (arith, three-each k, pow-succ' 128 k, pow-succ' 10 (3 * k), pow-succ' 10 (suc (3 * k)), pow-succ' 10 (suc (suc (3 * k)))))
+
+pub three-digits-each : (k v : ℕ) → v < 128 ^ suc k → length (decimal v) ≤ 3 * suc k
+three-digits-each k v h =
+    let e : 3 * suc k ≡ suc (suc (suc (3 * k))) = omega arith in
+    rw e (decimal-within (suc (suc (3 * k))) v (rw e at (lt-le h (three-each (suc k)))))
+  where
+    lt-le : {a b c : ℕ} → a < b → b ≤ c → a < c
+    lt-le i j = omega arith

@@ -1,0 +1,2 @@
+mod Following
+mod Notes
