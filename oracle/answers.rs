@@ -1,4 +1,4 @@
-//! The answer line of a frame, by section 6 of the design ("The answers program").
+//! The answer line of a frame.
 //!
 //!   answer   the line for a frame, op by op
 

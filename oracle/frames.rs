@@ -1,4 +1,4 @@
-//! Frames, as section 6 of the design lays them out: what a case is, read and written.
+//! Frames: what a case is, read and written.
 //!
 //!   Frame     one case: op, a, b and its bytes
 //!   Item      what the input has next: a frame, or one cut short
