@@ -10,7 +10,7 @@ use native.Mathlib.Omega.{arith}
 use borrow.Author.Tests.{lt-ltb, le-ltb}
 use lib.IntN.{ℤ, pos, negsuc}
 use lib.ListN.{length}
-use Rattle.words.proofs.Cases.{by-order}
+use Rattle.words.proofs.Cases.{by-order, clash}
 use Rattle.blocks.specs.Block.{blockLimit}
 use Rattle.listing.specs.Program.{Known, bytes, failed, ended, inputRoom, following, limitNote}
 use Rattle.claims.specs.OfListing.{Taking, last, another, answers, total, Taken, Silent}
@@ -39,7 +39,7 @@ said e = let n = ap length e in absurd (omega (arith, n))
 
 pub silent : Silent
 silent failed w = (λ e. let z : _≡_ {A = ℕ} 0 1 = cc in absurd (omega arith), λ k. let f = k .1 in let z : _≡_ {A = ℕ} 0 1 = cc in absurd (omega arith))
-silent (bytes n) false = (λ e. let z : _≡_ {A = ℕ} 0 1 = cc in absurd (omega arith), λ k. let f = k .3 in let z : _≡_ {A = ℕ} 0 1 = cc in absurd (omega arith))
+silent (bytes n) false = (λ e. let z : _≡_ {A = ℕ} 0 1 = cc in absurd (omega arith), λ k. clash refl (k .3))
 silent (bytes n) true = (
   λ e. by-order blockLimit n (λ h. absurd (said (rw (lt-ltb blockLimit n h) at e))) (λ h. (n, refl, h, refl)),
   λ k.

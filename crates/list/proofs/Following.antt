@@ -22,8 +22,7 @@ use Rattle.libc.specs.Io.{Moved}
 use Rattle.words.specs.declared.Count.{Count}
 use Rattle.words.proofs.Cases.{by-order, clash}
 use Rattle.listing.specs.Program.{Known, bytes, failed, more, ended, inputRoom, following}
-use Rattle.list.specs.Promise.{meansInput, Follows, InputWithin}
-use Rattle.list.specs.declared.Input.{Input}
+use Rattle.list.specs.Promise.{Follows, InputWithin}
 use Rattle.list.specs.declared.Input.the-variants as I
 use Rattle.list.specs.declared.Taken.the-variants as T
 
@@ -71,22 +70,13 @@ more-follows n (pos (suc j)) m e =
     (λ h. let f : more m ≡ ended (bytes (n + suc j)) = rw (le-ltb (n + suc j) inputRoom h) at e in let z : _≡_ {A = ℕ} 0 1 = cc in absurd (omega arith))
 more-follows n (negsuc j) m e = let z : _≡_ {A = ℕ} 0 1 = cc in absurd (omega arith)
 
--- a known input's bytes are no more than were asked for
-abbrev Within : Known → Type 0
-Within (bytes n) = n ≤ inputRoom
-Within failed = Unit {0}
-
-known-within : (n : ℕ) (k : ℤ) (i : Known) → n < inputRoom → Moved (inputRoom - n) k → ended i ≡ following n k → Within i
-known-within n (pos zero) i h m e = let f : i ≡ bytes n = cc in rw f (omega arith)
-known-within n (pos (suc j)) i h m e =
+pub ended-follows : (n : ℕ) (k : ℤ) (i : Known) → n < inputRoom → Moved (inputRoom - n) k → ended i ≡ following n k → InputWithin i
+ended-follows n (pos zero) i h m e = let f : i ≡ bytes n = cc in rw f (omega arith)
+ended-follows n (pos (suc j)) i h m e =
     by-order (n + suc j) inputRoom
     (λ l. let f : ended i ≡ more (n + suc j) = rw (lt-ltb (n + suc j) inputRoom l) at e in let z : _≡_ {A = ℕ} 0 1 = cc in absurd (omega arith))
     (λ l.
     let f : ended i ≡ ended (bytes (n + suc j)) = rw (le-ltb (n + suc j) inputRoom l) at e in
     let g : i ≡ bytes (n + suc j) = cc in
     rw g (omega (arith, m)))
-known-within n (negsuc j) i h m e = let f : i ≡ failed = cc in rw f tt
-
-pub ended-follows : (n : ℕ) (k : ℤ) (i : Input) → n < inputRoom → Moved (inputRoom - n) k → ended (meansInput i) ≡ following n k → InputWithin i
-ended-follows n k (I.Bytes m) h f e = known-within n k (bytes (m .0)) h f e
-ended-follows n k I.Failed h f e = tt
+ended-follows n (negsuc j) i h m e = let f : i ≡ failed = cc in rw f tt

@@ -24,9 +24,9 @@ abbrev pub meansTaken : Taken → Next
 meansTaken (T.More n) = more (n .0)
 meansTaken (T.Ended i) = ended (meansInput i)
 
-abbrev pub InputWithin : Input → Type 0
-InputWithin (I.Bytes n) = n .0 ≤ inputRoom
-InputWithin I.Failed = Unit
+abbrev pub InputWithin : Known → Type 0
+InputWithin (bytes n) = n ≤ inputRoom
+InputWithin failed = Unit
 
 pub record Follows (n : ℕ) (k : ℤ) (r : Taken) : Type 0 where
   pub is : meansTaken r ≡ following n k

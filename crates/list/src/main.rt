@@ -15,7 +15,7 @@ ghost use lib.ListN.{length};
 ghost use Rattle.libc.specs.Io.{Moved};
 ghost use Rattle.texts.specs.Texts.{LaysText};
 ghost use Rattle.listing.specs.Program.{inputRoom, limitNote};
-ghost use Rattle.list.specs.Promise.{InputWithin, Follows, LaysTextOf, LaysNoteOf};
+ghost use Rattle.list.specs.Promise.{meansInput, InputWithin, Follows, LaysTextOf, LaysNoteOf};
 
 // So much of the input is asked for: a byte more than a block may have, by which an input above the limit is seen to be so.
 const INPUT_ROOM: usize = BLOCK_LIMIT + 1;
@@ -59,7 +59,7 @@ fn after_read(there: Count, got: isize) -> Taken
 // Reads the input to its end, or until a byte more is there than a block may have.
 fn take_in(input: &mut [u8]) -> Input
     requires { ⌜ length (now input) ≡ inputRoom ⌝ }
-    ensures { λ r. ⌜ InputWithin r ⌝ }
+    ensures { λ r. ⌜ InputWithin (meansInput r) ⌝ }
 {
     let mut so_far = Count(0);
     loop {
@@ -79,7 +79,7 @@ fn take_in(input: &mut [u8]) -> Input
 // What is written for the input: its listing, or nothing where it can't be read.
 fn lay_text(known: Input, input: &[u8], text: &mut [u8; TEXT_ROOM]) -> Count
     requires { ⌜ length (now input) ≡ inputRoom ⌝ }
-    requires { ⌜ InputWithin known ⌝ }
+    requires { ⌜ InputWithin (meansInput known) ⌝ }
     ensures { λ r. ⌜ LaysTextOf known (now (input .entry)) (now (text .entry)) (r .0) (now (text .exit)) ⌝ }
 {
     match known {

@@ -6,7 +6,7 @@ use borrow.Author.Needs.{needs}
 use lib.ListN.{length}
 use Rattle.libc.specs.Io.{Moved}
 use Rattle.listing.specs.Program.{inputRoom, following}
-use Rattle.list.specs.Promise.{meansTaken}
+use Rattle.list.specs.Promise.{meansInput, meansTaken}
 use Rattle.list.proofs.Following.{part-length, moved-word, more-follows, ended-follows}
 use Rattle.list.proofs.take_in.Statement.{statement}
 use Rattle.list.proofs.take_in.Tie as tie
@@ -62,7 +62,7 @@ same-length c =
 returns : tie.Need-returns Inv-loop μ-loop
 returns c =
     let read = c .before .before .before .before .before .before in
-    ended-follows _ (read .read .result) (c .before .known .given .0 .0) (head read .loop .inv .1) (moved read) (ap meansTaken (sym (c .before .known .given .1)) ∙ followed (c .before .before .before))
+    ended-follows _ (read .read .result) (meansInput (c .before .known .given .0 .0)) (head read .loop .inv .1) (moved read) (ap meansTaken (sym (c .before .known .given .1)) ∙ followed (c .before .before .before))
 
 pub take-in-spec : {M : Type 1} → statement M
 take-in-spec =
