@@ -1,4 +1,4 @@
--- The rules on the listing of a block (docs/RULES.md, "Listing"), as bytes.
+-- The rules on the listing of a block (docs/RULES.md, "The listing"), as bytes.
 --
 --   row p what v       the line `p what v`
 --   fault k            the word for the fault of a group, 2 or 3
