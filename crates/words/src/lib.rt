@@ -8,7 +8,7 @@ pub struct Place(pub usize);
 // A count of bytes. No place can be handed over for it.
 pub struct Count(pub usize);
 
-// Why the desk refuses, in the order of document 01's table.
+// Why the desk refuses, as the numbers rise: document 01's table, then what document 02 adds.
 pub enum Refusal {
     End,
     Overflow,
@@ -18,6 +18,7 @@ pub enum Refusal {
     NotAStart,
     TooLong,
     NoStart,
+    Thread,
 }
 
 // What a writer answers: the count of bytes that it laid down, or why it laid none.
@@ -39,6 +40,7 @@ pub fn number(refusal: Refusal) -> u8
         Refusal::NotAStart => 6,
         Refusal::TooLong => 7,
         Refusal::NoStart => 8,
+        Refusal::Thread => 9,
     }
 }
 
