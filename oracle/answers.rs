@@ -1,11 +1,12 @@
 //! The answer line of a frame.
 //!
-//!   answer   the line for a frame, op by op
+//!   answer         the line for a frame, op by op
+//!   turn_meaning   what a turn means under a thread code
 
 use crate::blocks::{set_down, step, strict, write_list, Step};
 use crate::frames::{hex, Frame, Item};
 use crate::listing::listing;
-use crate::numbers::{length, power, read, write, Refusal, Rule};
+use crate::numbers::{length, power, read, write, Refusal, Rule, THREAD};
 use std::cmp::Ordering;
 use Rule::*;
 
@@ -115,14 +116,31 @@ fn list_line(frame: &Frame) -> String {
     format!("{} {}", count_or_refused(written), hex(&buffer))
 }
 
-/// "Above zero is Tighten, below zero is Loosen, zero is Hold."
+/// A thread code is a byte.
 fn turn_line(frame: &Frame) -> String {
-    let turn = match number_of(I64, frame.a).unwrap().cmp(&0) {
-        Ordering::Greater => "tighten",
-        Ordering::Less => "loosen",
-        Ordering::Equal => "hold",
+    let Ok(code) = u8::try_from(frame.b) else {
+        return UNKNOWN.to_string();
     };
-    turn.to_string()
+    match turn_meaning(number_of(I64, frame.a).unwrap(), code) {
+        Ok(name) => name.to_string(),
+        Err(refusal) => format!("refused {refusal}"),
+    }
+}
+
+/// "Above zero is Tighten, below zero is Loosen, zero is Hold", mended by document 02, #101: "The
+/// meaning of a turn now takes a thread code: 0 right, 1 left, where the two names change places.
+/// Zero is Hold for both. Any other code is refused as 9, Thread, tested first."
+fn turn_meaning(turn: i128, code: u8) -> Result<&'static str, Refusal> {
+    let (above, below) = match code {
+        0 => ("tighten", "loosen"),
+        1 => ("loosen", "tighten"),
+        _ => return Err(THREAD),
+    };
+    Ok(match turn.cmp(&0) {
+        Ordering::Greater => above,
+        Ordering::Less => below,
+        Ordering::Equal => "hold",
+    })
 }
 
 /// The refusal of a block too long is a text too, the one that the listing program writes.

@@ -58,6 +58,7 @@ pub fn more(input: &mut Vec<u8>) {
             into_slices(input, &[first, second], 1..=2);
         }
     }
+    turns_at_powers(input, 0..=255);
     long_blocks(input);
     long_lists(input);
     random_cases(input, 5, 100_000, 40);
@@ -255,7 +256,8 @@ fn needed_by(list: &[u64]) -> u64 {
 
 /// Lists that the frame does not hold, also where 8 times their numbers is more than 64 bits hold
 /// and would seem to fit if it were cut to them; slices above the cap, with a block too long as
-/// well; fields that an op does not ask for, and the listing asks for neither.
+/// well; fields that an op does not ask for, and the listing asks for neither. A turn asks for both
+/// and for no bytes.
 fn odd_frames(input: &mut Vec<u8>) {
     for place in [0, FAR] {
         let wrapping = [1 << 61, (1 << 61) + 1, 1 << 63, FAR];
@@ -272,19 +274,43 @@ fn odd_frames(input: &mut Vec<u8>) {
     for op in [STEP_UNSIGNED, STEP_SIGNED, SET_DOWN, STRICT, TURN, LISTING] {
         put(input, op, 1, FAR, &[0x05, 0x81, 0x01]);
     }
+    for code in 0..=2 {
+        put(input, TURN, 1, code, &[0x05, 0x81, 0x01]);
+    }
     for a in [3, 4, 8_193, FAR] {
         put(input, LISTING, a, 1, &[0x05, 0x81, 0x01]);
     }
 }
 
-/// Zero, every power of two, its negation, and the number below each.
+/// Every thread code with the turns around zero and at both ends; both threads with every power of
+/// two; codes that are no byte, most of which would be a thread's if they were cut to one.
 fn turns(input: &mut Vec<u8>) {
-    for of in 0..=63 {
-        for v in [power(of), -power(of)] {
-            for turn in [v - 1, v] {
-                put(input, TURN, turn as u64, 0, &[]);
+    let (smallest, largest) = (I64.smallest(), I64.largest());
+    for code in 0..=255 {
+        let ends = [smallest, smallest + 1, largest - 1, largest];
+        turned(input, code, (-2..=2).chain(ends));
+    }
+    turns_at_powers(input, 0..=1);
+    let far = [1 << 32, (1 << 32) + 1, 1 << 63, FAR];
+    for code in [256, 257, 511, 512, 65_536].into_iter().chain(far) {
+        turned(input, code, [-1, 0, 1, smallest, largest]);
+    }
+}
+
+/// Zero, every power of two, its negation, and the number below each.
+fn turns_at_powers(input: &mut Vec<u8>, codes: impl IntoIterator<Item = u64>) {
+    for code in codes {
+        for of in 0..=63 {
+            for v in [power(of), -power(of)] {
+                turned(input, code, [v - 1, v]);
             }
         }
+    }
+}
+
+fn turned(input: &mut Vec<u8>, code: u64, turns: impl IntoIterator<Item = i128>) {
+    for turn in turns {
+        put(input, TURN, turn as u64, code, &[]);
     }
 }
 
@@ -470,6 +496,19 @@ impl Random {
         let said = count + usize::from(self.below(16) == 0);
         put(input, LIST, place, said as u64, &bytes);
     }
+
+    /// Mostly a right or a left thread, at times any code, rarely one that is no byte. The code has a
+    /// seed of its own, the turn, so that the cases of other ops don't depend on it.
+    fn turn_case(&mut self, input: &mut Vec<u8>) {
+        let turn = self.number(I64) as u64;
+        let mut seeded = Random(turn);
+        let code = match seeded.below(16) {
+            0 => seeded.far(),
+            1 | 2 => seeded.byte() as u64,
+            _ => seeded.below(2) as u64,
+        };
+        put(input, TURN, turn, code, &[]);
+    }
 }
 
 /// Random cases from a seed, spread over ops 12 to 17, with blocks of no more than so many bytes.
@@ -482,7 +521,7 @@ fn random_cases(input: &mut Vec<u8>, seed: u64, count: usize, longest: usize) {
             8 | 9 => random.set_down_case(input, longest),
             10..=12 => random.strict_case(input, longest),
             13 | 14 => random.list_case(input, longest),
-            _ => put(input, TURN, random.number(I64) as u64, 0, &[]),
+            _ => random.turn_case(input),
         }
     }
 }

@@ -1,8 +1,9 @@
 //! The cases: first those written down by hand, then each limit from both sides, then random ones;
-//! after those for numbers, here, those for blocks and lists from block_cases.rs.
+//! after those for numbers, here, those for blocks, lists and turns from block_cases.rs.
 //!
 //!   committed   the cases that the repository holds
-//!   large       these, all pairs of bytes, long frames and blocks, and 1,220,000 random cases more
+//!   large       these, all pairs of bytes, more turns, long frames and blocks, and 1,220,000
+//!               random cases more
 //!
 //! Nothing here says what an answer should be. The same bytes come out on every machine.
 

@@ -1,5 +1,5 @@
-//! Answers written down by hand from document 01 and from the examples of DWARF 5, so that no
-//! expected output rests on this program's word alone.
+//! Answers written down by hand from document 01, from document 02 (#101) and from the examples of
+//! DWARF 5, so that no expected output rests on this program's word alone.
 //!
 //!   READ, WRITE, LENGTH   the cases for numbers, each with its answer line
 //!   BLOCK, LIST, TURN     those for blocks, lists and turns
@@ -22,6 +22,8 @@ type Write = (&'static [u8], i128, u64, &'static str, &'static str);
 type Length = (&'static [u8], i128, &'static str);
 /// (place, numbers, buffer in hex, answer)
 type List = (u64, &'static [u64], &'static str, &'static str);
+/// (thread codes, turn, answer)
+type Turn = (&'static [u64], i128, &'static str);
 
 /// The 17 bytes of document 01's listing, and the same with the two bytes at 3 mended.
 const DOCUMENT: &str = "00 80 01 80 00 ff ff ff ff ff ff ff ff ff 02 05 83";
@@ -280,12 +282,29 @@ const LIST: &[List] = &[
 ];
 
 #[rustfmt::skip]
-const TURN: &[Length] = &[
-    (&[17], 1, "tighten"),
-    (&[17], -1, "loosen"),
-    (&[17], 0, "hold"),
-    (&[17], 9223372036854775807, "tighten"),
-    (&[17], -9223372036854775808, "loosen"),
+const TURN: &[Turn] = &[
+    // Right: "above zero is Tighten, below zero is Loosen, zero is Hold".
+    (&[0], 1, "tighten"),
+    (&[0], -1, "loosen"),
+    (&[0], 0, "hold"),
+    (&[0], 9223372036854775807, "tighten"),
+    (&[0], -9223372036854775808, "loosen"),
+    // Document 02, #101: "1 left, where the two names change places. Zero is Hold for both."
+    (&[1], 1, "loosen"),
+    (&[1], -1, "tighten"),
+    (&[1], 0, "hold"),
+    (&[1], 9223372036854775807, "loosen"),
+    (&[1], -9223372036854775808, "tighten"),
+    // "Any other code is refused as 9, Thread, tested first."
+    (&[2, 127, 128, 254, 255], 1, "refused 9"),
+    (&[2, 127, 128, 254, 255], -1, "refused 9"),
+    (&[2, 127, 128, 254, 255], 0, "refused 9"),
+    (&[2, 127, 128, 254, 255], 9223372036854775807, "refused 9"),
+    (&[2, 127, 128, 254, 255], -9223372036854775808, "refused 9"),
+    // A code that is no byte, also one that would be 0 or 1 if it were cut to 8 or 32 bits.
+    (&[256, 257, 4294967296, 4294967297, 18446744073709551615], 1, "unknown"),
+    (&[256, 257, 4294967296, 4294967297, 18446744073709551615], -1, "unknown"),
+    (&[256, 257, 4294967296, 4294967297, 18446744073709551615], 0, "unknown"),
 ];
 
 /// (name of the input, its bytes in hex, its text)
@@ -386,9 +405,9 @@ pub fn put_known(input: &mut Vec<u8>) -> Vec<String> {
         put_list(input, *place, numbers, &bytes_of(buffer));
         lines.push(line.to_string());
     }
-    for (ops, v, line) in TURN {
-        for op in *ops {
-            put(input, *op, *v as u64, 0, &[]);
+    for (codes, turn, line) in TURN {
+        for code in *codes {
+            put(input, 17, *turn as u64, *code, &[]);
             lines.push(line.to_string());
         }
     }
@@ -468,7 +487,7 @@ pub fn check() -> Result<(), String> {
         let given = answer(item);
         if given != *line {
             return Err(format!(
-                "{}: `{given}`, by the document `{line}`",
+                "{}: `{given}`, by the documents `{line}`",
                 list(item)
             ));
         }

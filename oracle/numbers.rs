@@ -1,6 +1,6 @@
 //! Document 01's rules for one number.
 //!
-//!   Refusal        a number of the table of refusals
+//!   Refusal        a number of the table of refusals, or document 02's
 //!   Rule           a row of the table of widths
 //!   value          the number that the bytes of a form spell
 //!   one_too_many   whether the last byte of a form is one too many
@@ -12,7 +12,7 @@
 //! against a program that has such loops and must not share a slip with it. Where the document
 //! says a thing twice, both are here and `read` and `form` stop the run if they part.
 
-/// The number of a refusal, from the table of refusals.
+/// The number of a refusal, from the table of refusals; 9 from document 02, #101.
 pub type Refusal = u8;
 pub const END: Refusal = 1;
 pub const OVERFLOW: Refusal = 2;
@@ -22,6 +22,7 @@ pub const NO_ROOM: Refusal = 5;
 pub const NOT_A_START: Refusal = 6;
 pub const TOO_LONG: Refusal = 7;
 pub const NO_START: Refusal = 8;
+pub const THREAD: Refusal = 9;
 
 /// "The nine values at which a 64-bit number grows by a byte."
 pub const GROWTH: [i128; 9] = [

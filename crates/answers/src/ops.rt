@@ -25,6 +25,14 @@ fn step(block: &[u8], place: Place, rule: Rule) -> Line {
     said::step(cursor.step(block, rule))
 }
 
+// A thread code is a byte.
+fn turn(a: u64, b: u64) -> Line {
+    if b < 256 {
+        return said::meaning(turns::means(numbers::signed(a), b as u8));
+    }
+    said::unknown()
+}
+
 // The line for an op that leaves the bytes as they are.
 fn look(frame: Frame, bytes: &[u8]) -> Line {
     let op = frame.op;
@@ -41,7 +49,7 @@ fn look(frame: Frame, bytes: &[u8]) -> Line {
         12 => step(bytes, place, Rule::Unsigned),
         13 => step(bytes, place, Rule::Signed),
         14 => said::set_down(blocks::set_down(bytes, place)),
-        17 => said::turn(turns::means(numbers::signed(a))),
+        17 => turn(a, frame.b),
         _ => said::unknown(),
     }
 }

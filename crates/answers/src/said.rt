@@ -5,6 +5,7 @@ use blocks::SetDown;
 use blocks::Step;
 use lists::ReadList;
 use sleb128::ReadI64;
+use turns::Meaning;
 use turns::Turn;
 use uleb128::ReadU32;
 use uleb128::ReadU64;
@@ -70,11 +71,18 @@ pub(crate) fn set_down(answer: SetDown) -> Line {
     }
 }
 
-pub(crate) fn turn(answer: Turn) -> Line {
-    match answer {
+fn turn(turn: Turn) -> Line {
+    match turn {
         Turn::Tighten => says(b"tighten"),
         Turn::Loosen => says(b"loosen"),
         Turn::Hold => says(b"hold"),
+    }
+}
+
+pub(crate) fn meaning(answer: Meaning) -> Line {
+    match answer {
+        Meaning::Turn(name) => turn(name),
+        Meaning::Refused(refusal) => refused(refusal),
     }
 }
 

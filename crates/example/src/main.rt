@@ -9,6 +9,7 @@ use libc::STDOUT_FILENO;
 use lists::Numbers;
 use lists::ReadList;
 use sleb128::ReadI64;
+use turns::Meaning;
 use turns::Turn;
 use uleb128::ReadU64;
 use words::Count;
@@ -43,16 +44,23 @@ fn read_number(bytes: &[u8], place: Place) {
     }
 }
 
-// Reads a signed number at a place, as quarter turns.
-fn read_turn(bytes: &[u8], place: Place) {
+// Reads a signed number at a place, as quarter turns on an adapter with this thread.
+fn read_turn(bytes: &[u8], place: Place, thread: u8) {
     match sleb128::read_i64(bytes, place) {
-        ReadI64::Number(quarters, _) => say_turn(quarters),
+        ReadI64::Number(quarters, _) => say_meaning(quarters, thread),
         ReadI64::Refused(refusal) => say_refused(refusal),
     }
 }
 
-fn say_turn(quarters: i64) {
-    match turns::means(quarters) {
+fn say_meaning(quarters: i64, thread: u8) {
+    match turns::means(quarters, thread) {
+        Meaning::Turn(turn) => say_turn(turn),
+        Meaning::Refused(refusal) => say_refused(refusal),
+    }
+}
+
+fn say_turn(turn: Turn) {
+    match turn {
         Turn::Tighten => line(b"tighten\n"),
         Turn::Loosen => line(b"loosen\n"),
         Turn::Hold => line(b"hold\n"),
@@ -124,7 +132,7 @@ fn say_number(v: u64) {
 fn say_value(value: Value) {
     match value {
         Value::Unsigned(v) => say_number(v),
-        Value::Signed(quarters) => say_turn(quarters),
+        Value::Signed(quarters) => say_meaning(quarters, turns::RIGHT),
     }
 }
 
@@ -156,7 +164,9 @@ fn show_writing(buffer: &mut [u8]) {
 
 fn show_reading(bytes: &[u8]) {
     read_number(bytes, Place(3));
-    read_turn(bytes, Place(5));
+    read_turn(bytes, Place(5), turns::RIGHT);
+    read_turn(bytes, Place(5), turns::LEFT);
+    read_turn(bytes, Place(5), 2);
     read_number(bytes, Place(6));
     read_number(bytes, Place(9));
 }

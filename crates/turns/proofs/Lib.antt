@@ -1,1 +1,3 @@
 pub mod Signs
+pub mod Threads
+pub mod OneTurn

@@ -1,7 +1,7 @@
--- The sign of a number, from the two tests.
+-- The sign of a number, from the two tests; and with it what the number means under a thread.
 --
---   loosens, tightens, holds   what a number means: below zero Loosen, above zero Tighten, else Hold
-use Prim.Native.Nat.{zero, suc}
+--   loosens, tightens, holds   a number that is below zero, above zero, or neither, has its two names by the thread
+use Prim.Native.Nat.{ℕ, zero, suc}
 use mathlib.Core.Path.{_≡_, refl}
 use mathlib.Core.Bool.{true, false}
 use native.Mathlib.Omega.{arith}
@@ -9,19 +9,21 @@ use borrow.Author.Tests.{ltb-true, lt-ltb}
 use lib.IntN.{ℤ, pos, negsuc}
 use lib.Signed.{ltZ}
 use Rattle.words.proofs.Cases.{clash}
-use Rattle.turns.specs.Turns.{Means}
+use Rattle.turns.specs.Turns.{byThread, meansMeaning, Means}
+use Rattle.turns.specs.declared.Meaning.{Meaning}
 use Rattle.turns.specs.declared.Turn.the-variants.{Tighten, Loosen, Hold}
 
-pub loosens : (v : ℤ) → ltZ v (pos 0) ≡ true → Means v Loosen
-loosens (pos n) e = let h = ltb-true n 0 e in absurd (omega arith)
-loosens (negsuc n) e = record { is = refl }
+module _ {code : ℕ} {r : Meaning} where
+  pub loosens : (v : ℤ) → ltZ v (pos 0) ≡ true → meansMeaning r ≡ byThread code Loosen Tighten → Means v code r
+  loosens (pos n) e u = let h = ltb-true n 0 e in absurd (omega arith)
+  loosens (negsuc n) e u = record { is = u }
 
-pub tightens : (v : ℤ) → ltZ (pos 0) v ≡ true → Means v Tighten
-tightens (pos zero) e = let h = ltb-true 0 0 e in absurd (omega arith)
-tightens (pos (suc n)) e = record { is = refl }
-tightens (negsuc n) e = clash refl e
+  pub tightens : (v : ℤ) → ltZ (pos 0) v ≡ true → meansMeaning r ≡ byThread code Tighten Loosen → Means v code r
+  tightens (pos zero) e u = let h = ltb-true 0 0 e in absurd (omega arith)
+  tightens (pos (suc n)) e u = record { is = u }
+  tightens (negsuc n) e u = clash refl e
 
-pub holds : (v : ℤ) → ltZ v (pos 0) ≡ false → ltZ (pos 0) v ≡ false → Means v Hold
-holds (pos zero) a b = record { is = refl }
-holds (pos (suc n)) a b = clash b (lt-ltb 0 (suc n) (omega arith))
-holds (negsuc n) a b = clash a refl
+  pub holds : (v : ℤ) → ltZ v (pos 0) ≡ false → ltZ (pos 0) v ≡ false → meansMeaning r ≡ byThread code Hold Hold → Means v code r
+  holds (pos zero) a b u = record { is = u }
+  holds (pos (suc n)) a b u = clash b (lt-ltb 0 (suc n) (omega arith))
+  holds (negsuc n) a b u = clash a refl
