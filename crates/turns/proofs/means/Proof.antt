@@ -2,19 +2,19 @@
 use mir.Syntax.{w64}
 use mir.ValLaws.{toZ-ofZ}
 use borrow.Author.Needs.{needs}
-use Rattle.turns.proofs.Signs.{loosens, tightens, holds}
+use Rattle.turns.proofs.Signs.{means-below, means-above, means-zero}
 use Rattle.turns.proofs.means.Statement.{statement}
 use Rattle.turns.proofs.means.Tie as tie
 
 returns : tie.Need-returns
-returns c = loosens _ (rw (toZ-ofZ w64 _ (c .before .before .fits .quarters)) at (c .before .if1 .taken)) (search needs)
+returns c = means-below _ (rw (toZ-ofZ w64 _ (c .before .before .fits .quarters)) at (c .before .if1 .taken)) (search needs)
 
 returns-2 : tie.Need-returns-2
-returns-2 c = tightens _ (rw (toZ-ofZ w64 _ (c .before .before .before .fits .quarters)) at (c .before .if2 .taken)) (search needs)
+returns-2 c = means-above _ (rw (toZ-ofZ w64 _ (c .before .before .before .fits .quarters)) at (c .before .if2 .taken)) (search needs)
 
 returns-3 : tie.Need-returns-3
 returns-3 c =
-    holds _ (rw (toZ-ofZ w64 _ (c .before .before .before .fits .quarters)) at (c .before .before .if1 .left))
+    means-zero _ (rw (toZ-ofZ w64 _ (c .before .before .before .fits .quarters)) at (c .before .before .if1 .left))
     (rw (toZ-ofZ w64 _ (c .before .before .before .fits .quarters)) at (c .before .if2 .left)) (search needs)
 
 pub means-spec : {M : Type 1} → statement M
