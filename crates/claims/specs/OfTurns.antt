@@ -1,7 +1,7 @@
 -- What is claimed of turns.
 --
 --   MeaningRow           the rows of each answer
---   TurnRow              the row of each meaning of a turn by document 01
+--   TurnRow              document 01's row of each meaning of a turn, without a thread
 --   RightThread          under a right thread a turn means just that
 --   LeftThread           under a left thread it means that with the two names changed places
 --   TurnsMet, TurnsOne   an answer meets the promise, and no second
@@ -28,7 +28,7 @@ pub data MeaningRow (v : ℤ) : ℕ → Meaning → Type 0 where
   holds : {code : ℕ} → code ≤ 1 → v ≡ pos 0 → MeaningRow v code (M.Turn Hold)
   no-thread : {code : ℕ} → 1 < code → MeaningRow v code (M.Refused Thread)
 
--- What a turn means without a thread code: above zero is Tighten, below zero is Loosen, zero is Hold.
+-- Document 01's sentence, which knows no thread: above zero is Tighten, below zero is Loosen, zero is Hold.
 abbrev pub TurnRow : ℤ → Turn → Type 0
 TurnRow v Tighten = pos 0 <ℤ v
 TurnRow v Loosen = v <ℤ pos 0
