@@ -6,18 +6,20 @@
 --   unsigned-short   at most k + 1 do where it is below 128 to the k + 1,
 --   unsigned-long    and more than k + 1 where it is not
 --   growth-at        the growth values are 128 to the powers from 1 to 9
---   length-found     a number below the value at i, spelled by more than i bytes, takes i + 1
---   growth-passed    one not below it takes more than i + 1
---   at-most-ten      a number of 64 bits takes ten at most,
---   longest-length   and ten if it takes more than nine
-use Prim.Native.Nat.{ℕ, zero, suc, _+_, _-_, _*_, _^_, _≤_, _<_}
-use mathlib.Core.Path.{_≡_, ap, _∙_}
+--   one-byte         a number below 128 takes one byte
+--   Nearly v n       v takes n bytes, 1 to 9, or one more,
+--   by-bits          and where n is the eighths of its bits and one, it does
+--   growth-passed, growth-not-passed   the value between the two tells which
+use Prim.Native.Nat.{ℕ, zero, suc, _+_, _-_, _*_, _/_, _^_, _≤_, _<_}
+use mathlib.Core.Path.{_≡_, refl, ap, sym, _∙_}
 use mathlib.Core.List.{List, [], _∷_}
 use mathlib.Core.Bool.{Bool, false}
 use native.Mathlib.Nat.{pow-succ', add-zero, le-antisymm}
 use native.Mathlib.Numerals.{add-one}
 use native.Mathlib.Omega.{arith}
+use lib.Count.{leadingZeros, leading-length}
 use lib.ListN.{length, getD}
+use lib.Pow.{pow-add, pow-mono}
 use Rattle.words.specs.Lays.{Takes}
 use Rattle.words.proofs.Cases.{by-order}
 use Rattle.groups.specs.Form.{spell, growth}
@@ -68,15 +70,54 @@ pub growth-at : (i : ℕ) → i < 9 → getD growth i 0 ≡ 128 ^ (i + 1)
 unfolding table
 growth-at i h = table-at (λ (k : ℕ). 128 ^ (k + 1)) 0 9 i h ∙ ap (λ (k : ℕ). 128 ^ (k + 1)) (omega arith)
 
-module _ (v i : ℕ) (few : i < 9) where
-  pub length-found : i < length (spell false 128 v) → v < getD growth i 0 → Takes (spell false 128 v) (record { 0 = i + 1 })
-  length-found h l = record { is = omega (arith, unsigned-short v i (rw (← (growth-at i few)) l)) }
+-- a power of 128, in bits
+in-bits : (k : ℕ) → 128 ^ k ≡ 2 ^ (7 * k)
+in-bits zero = refl
+in-bits (suc k) = let e : 7 * suc k ≡ 7 + 7 * k = omega arith in rw (e, pow-add 2 7 (7 * k), pow-succ' 128 k, in-bits k)
 
-  pub growth-passed : getD growth i 0 ≤ v → i + 1 < length (spell false 128 v)
-  growth-passed l = unsigned-long v i (rw (← (growth-at i few)) l)
+pub one-byte : (v : ℕ) → v < 128 → Takes (spell false 128 v) (record { 0 = 1 })
+one-byte v h = record { is = omega (arith, unsigned-some v, unsigned-short v 0 (omega arith)) }
 
-pub at-most-ten : (v : ℕ) → v < 2 ^ 64 → length (spell false 128 v) ≤ 10
-at-most-ten v h = unsigned-short v 9 (omega arith)
+pub record Nearly (v n : ℕ) : Type 0 where
+  pub some : 0 < n
+  pub few : n ≤ 9
+  pub least : n ≤ length (spell false 128 v)
+  pub most : length (spell false 128 v) ≤ n + 1
 
-pub longest-length : (v : ℕ) → v < 2 ^ 64 → 9 < length (spell false 128 v) → Takes (spell false 128 v) (record { 0 = 10 })
-longest-length v f h = record { is = omega (arith, at-most-ten v f) }
+-- m bits are seven for each of n - 1 bytes and one more, and at most seven for each of n + 1
+module _ (v m n : ℕ) (above : v < 2 ^ m) (below : 2 ^ m ≤ 2 * v + 1) (eighths : n ≡ (m + 8) / 8) (within : m ≤ 64) where
+  least-bytes : n ≤ length (spell false 128 v)
+  least-bytes =
+      by-order n 2 (λ h. omega (arith, unsigned-some v))
+      (λ h.
+      let k : n - 2 + 1 ≡ n - 1 = omega arith in
+      let double : 2 * 2 ^ (m - 1) ≡ 2 ^ m = sym (pow-succ' 2 (m - 1)) ∙ ap (λ (k : ℕ). 2 ^ k) (omega arith) in
+      let up : 2 ^ (7 * (n - 1)) ≤ 2 ^ (m - 1) = pow-mono (omega arith) in
+      omega (arith, unsigned-long v (n - 2) (rw (k, in-bits (n - 1)) (omega arith))))
+
+  most-bytes : length (spell false 128 v) ≤ n + 1
+  most-bytes =
+      let up : 2 ^ m ≤ 2 ^ (7 * (n + 1)) = pow-mono (omega arith) in
+      unsigned-short v n (rw (in-bits (n + 1)) (omega arith))
+
+pub by-bits : (v : ℕ) → v < 2 ^ 64 → Nearly v ((72 - leadingZeros 64 v) / 2 ^ 3)
+by-bits v h =
+    let l = leading-length 64 v h in
+    let n = (72 - leadingZeros 64 v) / 2 ^ 3 in
+    let e : n ≡ (l .0 + 8) / 8 = omega (arith, l .1) in
+    record {
+      some = omega (arith, l .1);
+      few = omega arith;
+      least = least-bytes v (l .0) n (l .2) (l .3) e (omega (arith, l .1));
+      most = most-bytes v (l .0) n (l .2) (l .3) e (omega (arith, l .1));
+    }
+
+module _ {v n : ℕ} (near : Nearly v n) where
+  at-growth : getD growth (n - 1) 0 ≡ 128 ^ (n - 1 + 1)
+  at-growth = growth-at (n - 1) (omega (arith, near .some, near .few))
+
+  pub growth-passed : getD growth (n - 1) 0 ≤ v → Takes (spell false 128 v) (record { 0 = n + 1 })
+  growth-passed h = record { is = omega (arith, near .some, near .most, unsigned-long v (n - 1) (rw (← at-growth) h)) }
+
+  pub growth-not-passed : v < getD growth (n - 1) 0 → Takes (spell false 128 v) (record { 0 = n })
+  growth-not-passed h = record { is = omega (arith, near .some, near .least, unsigned-short v (n - 1) (rw (← at-growth) h)) }

@@ -11,9 +11,10 @@ use words::has_room;
 ghost use mathlib.Core.Path.{_≡_};
 ghost use mathlib.Core.Bool.{false};
 ghost use Prim.Native.Nat.{_<_};
+ghost use lib.ListN.{getD};
 ghost use lib.Signed.{mag};
 ghost use Rattle.words.specs.Lays.{Lays, Takes};
-ghost use Rattle.groups.specs.Form.{say, spell, below as is-below};
+ghost use Rattle.groups.specs.Form.{say, spell, growth, below as is-below};
 ghost use Rattle.groups.specs.Inner.{groups};
 ghost use Rattle.groups.specs.Promise.{SpelledLength, Stores};
 
@@ -43,20 +44,44 @@ fn magnitude(v: i64) -> u64
     if v < 0 { (!v) as u64 } else { v as u64 }
 }
 
-// How many bytes an unsigned number takes, looked up.
+// The growth value at a place of the array. By cases: an array asked at a place that isn't written out is laid down anew for each question.
+fn growth_at(i: usize) -> u64
+    requires { ⌜ i < 9 ⌝ }
+    ensures { λ r. ⌜ r ≡ getD growth i 0 ⌝ }
+{
+    match i {
+        1 => GROWTH[1],
+        2 => GROWTH[2],
+        3 => GROWTH[3],
+        4 => GROWTH[4],
+        5 => GROWTH[5],
+        6 => GROWTH[6],
+        7 => GROWTH[7],
+        8 => GROWTH[8],
+        _ => GROWTH[0],
+    }
+}
+
+// How many bytes an unsigned number takes, looked up. A number of that many bits takes n bytes, n its eighths and one, or one more: the
+// growth value between the two decides.
+fn looked_up(v: u64) -> Count
+    ensures { λ r. ⌜ Takes (spell false 128 v) r ⌝ }
+{
+    let zeros = u64::leading_zeros(v) as usize;
+    let n = (72 - zeros) >> 3;
+    let growth = growth_at(n - 1);
+    if growth <= v { Count(n + 1) } else { Count(n) }
+}
+
+// The same, with a test for one byte first: most numbers take one.
 fn length_unsigned(v: u64) -> Count
     ensures { λ r. ⌜ Takes (spell false 128 v) r ⌝ }
 {
-    let mut i = 0;
-    while i < 9 {
-        let growth = GROWTH[i];
-        let n = i + 1;
-        if v < growth {
-            return Count(n);
-        }
-        i = n;
+    let growth = GROWTH[0];
+    if v < growth {
+        return Count(1);
     }
-    Count(10)
+    looked_up(v)
 }
 
 // How many a signed one takes. It ends where what is left of m is below 64, so that the last byte's bit of weight 64 tells the sign: so

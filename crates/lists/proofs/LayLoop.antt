@@ -1,64 +1,120 @@
--- Laying a list's forms down one after another: what the loop holds, from what a writer of one number promises.
+-- Laying bytes down one after another where there is room for them: what a loop holds, over any bytes; then a number byte by byte, and a
+-- list number by number.
 --
---   LaidSoFar ns s at out n i    the forms of the first i numbers are laid down from the place at on, n bytes
---   none-of-list                 at first, none
---   room-next                    there is room for the form of the next number,
---   one-of-list                  which, laid down, is one more
---   all-of-list                  behind the last number, all forms are laid down, with their count of bytes
---   list-too-long                a list of more numbers than the limit is refused by 7
---   list-laid                    any other is written by laying its forms down
-use Prim.Native.Nat.{ℕ, _+_, _≤_, _<_}
+--   put-keeps                     bytes stored leave the length as it was
+--   Laying all s at out to rest   of the bytes all, which go to the place at of s, those before the place to stand in out, and rest are left
+--   nothing-laid                  at first, all are left
+--   part-laid                     with a part of what is left stored, the rest of it is
+--   room-left                     there is room for what is left
+--   byte-put                      a number of 128 or more: its first byte stored, v div 128 is left
+--   last-put                      one below 128: its one byte stored, all is
+--   rest-put                      what is left of a number stored, all is
+--   ninth-put                     behind nine bytes, what is left of a number of 64 bits is below 128
+--   room-next                     there is room for a list's next number,
+--   one-of-list                   which, stored, leaves those behind it
+--   all-of-list                   behind the last number, all forms are laid down, with their count of bytes
+--   ample                         where ten bytes for each number fit, the forms do
+--   list-too-long                 a list of more numbers than the limit is refused by 7
+--   list-laid                     any other is written by laying its forms down
+use Prim.Native.Nat.{ℕ, suc, _+_, _-_, _*_, _/_, _^_, _≤_, _<_}
 use mathlib.Core.Path.{_≡_, refl, ap, sym, _∙_}
-use mathlib.Core.List.{List, []}
-use native.Mathlib.Nat.{add-zero}
+use mathlib.Core.List.{List, [], _∷_, _++_, append-nil}
+use mathlib.Core.Bool.{Bool, true}
+use native.Mathlib.Nat.{mod-eq-of-lt}
 use native.Mathlib.Omega.{arith}
-use borrow.Author.Tests.{lt-ltb, le-ltb}
-use lib.ListN.{length, getD, drop}
+use borrow.Author.Tests.{lt-ltb, le-ltb, le-leb}
+use lib.ListN.{length, getD, drop, set, length-append}
 use lib.Seq.{sets, sets-eq, length-sets}
 use Rattle.words.specs.Lays.{Lays}
-use Rattle.words.specs.declared.Count.{Count}
+use Rattle.words.specs.Promise.{HasRoom}
 use Rattle.words.specs.declared.Refusal.the-variants.{TooLong}
 use Rattle.words.specs.declared.Written.{Written}
 use Rattle.words.specs.declared.Written.the-variants.{Bytes, Refused}
-use Rattle.words.proofs.Lays.{fits-there, sets-append}
+use Rattle.words.proofs.Cases.{by-order}
+use Rattle.words.proofs.Lays.{fits-there, room-there, sets-append}
+use Rattle.bits.specs.Macros.{takeLow7Bits, setHigh8Bit}
+use Rattle.bits.proofs.HighBit.{set-seven}
 use Rattle.uleb128.specs.Unsigned.{form}
+use Rattle.uleb128.proofs.Forms.{form-small, form-large, form-short, form-long}
+use Rattle.lists.specs.Inner.{Puts}
 use Rattle.lists.specs.Lists.{forms, listLimit}
 use Rattle.lists.specs.Promise.{WritesList}
 use Rattle.lists.proofs.TotalLoop.{forms-next, forms-end, length-next}
 
--- the forms of i numbers are laid down, n bytes
-pub record LaidSoFar (ns s : List ℕ) (at : ℕ) (out : List ℕ) (n i : ℕ) : Type 0 where
-  pub within : i ≤ length ns
+pub put-keeps : {bytes s out : List ℕ} {at r : ℕ} → Puts bytes s at r out → length out ≡ length s
+put-keeps {bytes} {s} {at = at} w = ap length (w .leaves) ∙ length-sets s at bytes
+
+pub record Laying (all s : List ℕ) (at : ℕ) (out : List ℕ) (to : ℕ) (rest : List ℕ) : Type 0 where
   pub kept : length out ≡ length s
-  pub ends : n + length (forms (drop i ns)) ≡ length (forms ns)
-  pub left : sets out (at + n) (forms (drop i ns)) ≡ sets s at (forms ns)
+  pub onward : at ≤ to
+  pub ends : to + length rest ≡ at + length all
+  pub left : sets out to rest ≡ sets s at all
 
-module _ (ns s : List ℕ) (at : ℕ) (room : at + length (forms ns) ≤ length s) where
-  pub none-of-list : LaidSoFar ns s at s 0 0
-  none-of-list = record { within = omega arith; kept = refl; ends = omega arith; left = ap (λ (p : ℕ). sets s p (forms ns)) (add-zero at) }
+pub nothing-laid : (all s : List ℕ) (at : ℕ) → Laying all s at s at all
+nothing-laid all s at = record { kept = refl; onward = omega arith; ends = refl; left = refl }
 
-  module _ {out : List ℕ} {n i : ℕ} (g : LaidSoFar ns s at out n i) where
-    pub room-next : i < length ns → at + n + length (form (getD ns i 0)) ≤ length out
-    room-next h = omega (arith, g .ends, g .kept, length-next ns i h)
+module _ {all s : List ℕ} {at : ℕ} {out : List ℕ} {to : ℕ} {rest : List ℕ} (g : Laying all s at out to rest) where
+  pub part-laid : (part more : List ℕ) → rest ≡ part ++ more → {after : List ℕ} {p : ℕ} → after ≡ sets out to part → p ≡ to + length part
+      → Laying all s at after p more
+  part-laid part more e {after} {p} f q =
+      record {
+        kept = ap length f ∙ length-sets out to part ∙ g .kept;
+        onward = omega (arith, g .onward);
+        ends = omega (arith, g .ends, ap length e, length-append part more);
+        left = rw (f, q) (sym (sets-append part more out to) ∙ ap (sets out to) (sym e) ∙ g .left);
+      }
 
-    pub one-of-list : i < length ns → {after : List ℕ} {k : ℕ} → after ≡ sets out (at + n) (form (getD ns i 0)) → k ≡ length (form (getD ns i 0))
-        → LaidSoFar ns s at after (n + k) (i + 1)
-    one-of-list h {after} {k} e f =
-        let p : at + (n + length (form (getD ns i 0))) ≡ at + n + length (form (getD ns i 0)) = omega arith in
-        record {
-          within = omega arith;
-          kept = ap length e ∙ length-sets out (at + n) (form (getD ns i 0)) ∙ g .kept;
-          ends = omega (arith, g .ends, length-next ns i h);
-          left =
-              rw (e, f, p) (sym (sets-append (form (getD ns i 0)) (forms (drop (i + 1) ns)) out (at + n))
-              ∙ ap (sets out (at + n)) (sym (forms-next ns i h)) ∙ g .left);
-        }
+  all-laid : rest ≡ [] → Puts all s at to out
+  all-laid e = record { behind = omega (arith, g .ends, ap length e); leaves = rw e at (g .left) }
 
-    pub all-of-list : length ns ≤ i → (count : Count) → count .0 ≡ n → Lays (forms ns) s at (Bytes count) out
-    all-of-list h count e =
-        let z : forms (drop i ns) ≡ [] = forms-end ns i (g .within) h in
-        fits-there (forms ns) s at count room (omega (arith, g .ends, ap length z))
-        ((rw z at (g .left)) ∙ sets-eq (forms ns) s at room)
+  pub room-left : at + length all ≤ length s → to + length rest ≤ length out
+  room-left h = omega (arith, g .ends, g .kept)
+
+-- a number, byte by byte
+module _ (v rest : ℕ) {s : List ℕ} {at : ℕ} {out : List ℕ} {to : ℕ} (g : Laying (form v) s at out to (form rest)) where
+  pub byte-put : 128 ≤ rest → {bits byte : ℕ} → bits ≡ takeLow7Bits rest → byte ≡ setHigh8Bit bits
+      → Laying (form v) s at (set out to byte) (to + 1) (form (rest / 128))
+  byte-put h p q =
+      let e = q ∙ ap setHigh8Bit p ∙ set-seven (takeLow7Bits rest) (omega arith) in
+      part-laid g (_ ∷ []) (form (rest / 128)) (form-large rest h) (ap (set out to) e) refl
+
+  pub last-put : rest < 128 → {bits : ℕ} → bits ≡ takeLow7Bits rest → Puts (form v) s at (to + 1) (set out to bits)
+  last-put h p = all-laid (part-laid g (rest ∷ []) [] (form-small rest h) (ap (set out to) (p ∙ mod-eq-of-lt h)) refl) refl
+
+  pub rest-put : {p : ℕ} {after : List ℕ} → Puts (form rest) out to p after → Puts (form v) s at p after
+  rest-put w = all-laid (part-laid g (form rest) [] (sym (append-nil (form rest))) (w .leaves) (w .behind)) refl
+
+  pub ninth-put : v < 2 ^ 64 → at + 9 ≤ to → rest < 128
+  ninth-put f h =
+      by-order rest 128 (λ l. l)
+      (λ l. absurd (omega (arith, g .ends, form-short v 9 (omega arith), form-long rest 1 (omega arith))))
+
+-- a list, number by number
+module _ (ns : List ℕ) (i : ℕ) {s : List ℕ} {at : ℕ} {out : List ℕ} {to : ℕ} (g : Laying (forms ns) s at out to (forms (drop i ns))) where
+  pub room-next : at + length (forms ns) ≤ length s → i < length ns → to + length (form (getD ns i 0)) ≤ length out
+  room-next r h = omega (arith, room-left g r, length-next ns i h)
+
+  pub one-of-list : i < length ns → {after : List ℕ} {p : ℕ} → Puts (form (getD ns i 0)) out to p after
+      → Laying (forms ns) s at after p (forms (drop (i + 1) ns))
+  one-of-list h w = part-laid g (form (getD ns i 0)) (forms (drop (i + 1) ns)) (forms-next ns i h) (w .leaves) (w .behind)
+
+  pub all-of-list : at + length (forms ns) ≤ length s → i ≤ length ns → length ns ≤ i → Lays (forms ns) s at (Bytes (record { 0 = to - at })) out
+  all-of-list r h l =
+      let p = all-laid g (forms-end ns i h l) in
+      fits-there (forms ns) s at _ r (omega (arith, p .behind)) (p .leaves ∙ sets-eq (forms ns) s at r)
+
+-- at most ten bytes for each number of 64 bits
+forms-short : (ns : List ℕ) → ((i : ℕ) → getD ns i 0 < 2 ^ 64) → length (forms ns) ≤ 10 * length ns
+unfolding forms
+forms-short [] h = omega arith
+forms-short (v ∷ ns) h =
+    let f : v < 2 ^ 64 = h 0 in
+    omega (arith, length-append (form v) (forms ns), form-short v 9 (omega arith), forms-short ns (λ i. h (suc i)))
+
+pub ample : (ns : List ℕ) → ((i : ℕ) → getD ns i 0 < 2 ^ 64) → {size at : ℕ} {room : Bool} → HasRoom size at (10 * length ns) room
+    → room ≡ true → HasRoom size at (length (forms ns)) true
+ample ns h {size} {at} p e =
+    record { is = sym (le-leb (at + length (forms ns)) size (omega (arith, forms-short ns h, room-there p e))) }
 
 module _ (ns s : List ℕ) (at : ℕ) where
   pub list-too-long : listLimit < length ns → WritesList ns s at (Refused TooLong) s

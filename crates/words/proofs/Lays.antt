@@ -4,9 +4,6 @@
 --   room-full, room-there   what the test for room says
 --   no-room, room-refused   the promise kept where the bytes don't fit, and where the test says so
 --   fits-there              the promise kept where they fit
---   laid-there              where they fit they stand at the place,
---   laid-count              their count is answered,
---   never-refused           and nothing is refused
 --   some-lays               what a writer can answer
 --   sets-append             bytes stored, and more behind them
 use Prim.Native.Nat.{ℕ, suc, _+_, _-_, _≤_, _<_}
@@ -18,12 +15,11 @@ use native.Mathlib.Omega.{arith}
 use borrow.Author.Tests.{le-leb, lt-leb, leb-true, leb-false}
 use lib.Dec.{leb}
 use lib.ListN.{length, take, drop, set}
-use lib.Seq.{sets, sets-eq}
-use Rattle.words.specs.Answer.{gives, refused, meansWritten, because}
+use lib.Seq.{sets}
+use Rattle.words.specs.Answer.{gives}
 use Rattle.words.specs.Lays.{writing, laid, Lays}
 use Rattle.words.specs.Promise.{HasRoom}
 use Rattle.words.specs.declared.Count.{Count}
-use Rattle.words.specs.declared.Refusal.{Refusal}
 use Rattle.words.specs.declared.Refusal.the-variants.{NoRoom}
 use Rattle.words.specs.declared.Written.{Written}
 use Rattle.words.specs.declared.Written.the-variants.{Bytes, Refused}
@@ -69,24 +65,6 @@ module _ (bytes s : List ℕ) (at : ℕ) where
   some-lays =
       by-order (length s) (at + length bytes) (λ h. (Refused NoRoom, s, no-room h))
       (λ h. (Bytes (record { 0 = length bytes }), take at s ++ bytes ++ drop (at + length bytes) s, fits-there (record { 0 = length bytes }) h refl refl))
-
--- what a writer's answer says where there is room
-module _ {bytes s : List ℕ} {at : ℕ} {r : Written} {out : List ℕ} (room : at + length bytes ≤ length s) (l : Lays bytes s at r out) where
-  pub laid-there : out ≡ sets s at bytes
-  unfolding laid
-  laid-there = l .leaves ∙ rw (le-leb (at + length bytes) (length s) room) (sym (sets-eq bytes s at room))
-
-  answers : meansWritten r ≡ gives (length bytes)
-  unfolding writing
-  answers = l .answer ∙ rw (le-leb (at + length bytes) (length s) room)
-
-  pub laid-count : {n : Count} → r ≡ Bytes n → n .0 ≡ length bytes
-  laid-count {n} e = let q : gives (n .0) ≡ gives (length bytes) = ap meansWritten (sym e) ∙ answers in cc
-
-  pub never-refused : {X : Type 0} {k : Refusal} → r ≡ Refused k → X
-  never-refused {k = k} e =
-      let q : refused (because k) ≡ gives (length bytes) = ap meansWritten (sym e) ∙ answers in
-      let z : _≡_ {A = ℕ} 0 1 = cc in absurd (omega arith)
 
 pub sets-append : (a b l : List ℕ) (i : ℕ) → sets l i (a ++ b) ≡ sets (sets l i a) (i + length a) b
 sets-append [] b l i = rw (add-zero i)

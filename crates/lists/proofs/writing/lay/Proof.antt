@@ -1,73 +1,43 @@
--- `lists::lay` keeps what it promises inside the crate: the loop holds `LaidSoFar`, and each turn is a law of `LayLoop`.
-use Prim.Native.Nat.{_+_, _-_, _≤_}
-use mathlib.Core.Path.{refl}
+-- `lists::lay` keeps what it promises inside the crate: the loop holds `Laying`, and each turn is a law of `LayLoop`.
+use Prim.Native.Nat.{_-_, _≤_}
 use native.Mathlib.Omega.{arith}
 use borrow.Author.Needs.{needs}
-use lib.ListN.{length, getD}
-use Rattle.words.proofs.Lays.{laid-there, laid-count, never-refused}
-use Rattle.uleb128.specs.Unsigned.{form}
-use Rattle.lists.proofs.LayLoop.{LaidSoFar, room-next, none-of-list, one-of-list, all-of-list}
+use lib.ListN.{length, drop}
+use Rattle.lists.specs.Lists.{forms}
+use Rattle.lists.proofs.LayLoop.{Laying, nothing-laid, one-of-list, all-of-list, room-next}
 use Rattle.lists.proofs.writing.lay.Statement.{statement}
 use Rattle.lists.proofs.writing.lay.Tie as tie
 
 abbrev Inv-loop : tie.InvT-loop
-Inv-loop numbers buffer₀ at total₀ i₀ buffer total i = LaidSoFar numbers buffer₀ at buffer total i
+Inv-loop numbers buffer₀ at to₀ i₀ buffer to i = (i ≤ length numbers) × Laying (forms numbers) buffer₀ at buffer to (forms (drop i numbers))
 
 abbrev μ-loop : tie.MeasureT-loop
-μ-loop numbers buffer₀ at total₀ i₀ buffer total i = length numbers - i
-
--- where a number was written, and the loop's head before it
-abbrev wrote : tie.After-known-told Inv-loop μ-loop → tie.After-write-u64 Inv-loop μ-loop
-wrote c = c .before .before .before .before .before
-
-abbrev head : tie.After-write-u64 Inv-loop μ-loop → tie.At-loop Inv-loop μ-loop
-head w = w .before .before .before .before
-
-abbrev entry : tie.After-write-u64 Inv-loop μ-loop → tie.Start Inv-loop μ-loop
-entry w = head w .before .before .before
-
-there : (w : tie.After-write-u64 Inv-loop μ-loop)
-    → entry w .args .at + head w .loop .total + length (form (getD (entry w .args .numbers .now) (head w .loop .i) 0)) ≤ length (head w .loop .buffer)
-there w = room-next _ _ _ (entry w .pre) (head w .loop .inv) (w .before .before .before .loop-test .taken)
-
-again : (c : tie.After-known-told Inv-loop μ-loop)
-    → LaidSoFar (entry (wrote c) .args .numbers .now) (entry (wrote c) .args .buffer .now) (entry (wrote c) .args .at)
-    (wrote c .write-u64 .last .1 .0) (head (wrote c) .loop .total + c .before .count .given .0 .0 .0) (head (wrote c) .loop .i + 1)
-again c =
-    let w = wrote c in
-    one-of-list _ _ _ (entry w .pre) (head w .loop .inv) (w .before .before .before .loop-test .taken)
-    (laid-there (there w) (w .write-u64 .ensures)) (laid-count (there w) (w .write-u64 .ensures) (c .before .count .given .1))
+μ-loop numbers buffer₀ at to₀ i₀ buffer to i = length numbers - i
 
 loop-holds : tie.Need-loop-holds Inv-loop μ-loop
-loop-holds c = none-of-list _ _ _ (c .before .before .pre)
+loop-holds c = (omega arith, nothing-laid _ _ _)
 
-add-to : tie.Need-add-to Inv-loop μ-loop
-add-to c =
-    let h = c .before .before in
-    omega (arith, h .loop .inv .ends, h .before .before .before .pre)
-
-add-total : tie.Need-add-total Inv-loop μ-loop
-add-total c = omega (arith, again c .ends, entry (wrote c) .pre)
+put-requires : tie.Need-put-requires Inv-loop μ-loop
+put-requires c κs =
+    let l = c .before .before .before in
+    room-next _ _ (l .loop .inv .1) (l .before .before .before .pre) (c .before .before .loop-test .taken)
 
 loop-again : tie.Need-loop-again Inv-loop μ-loop
-loop-again c = again c
+loop-again c =
+    let l = c .before .before .before .before .before .before in
+    (omega arith, one-of-list _ _ (l .loop .inv .1) (c .before .before .before .before .before .loop-test .taken) (c .before .before .put .ensures))
+
+sub-n : tie.Need-sub-n Inv-loop μ-loop
+sub-n c = c .before .loop .inv .1 .onward
 
 same-length : tie.Need-same-length Inv-loop μ-loop
-same-length c =
-    let w = c .before .before .before .before .before in
-    never-refused (there w) (w .write-u64 .ensures) (c .before .refusal .given .1)
+same-length c = c .before .loop .inv .1 .kept
 
 returns : tie.Need-returns Inv-loop μ-loop
-returns c =
-    let w = c .before .before .before .before .before in
-    never-refused (there w) (w .write-u64 .ensures) (c .before .refusal .given .1)
-
-returns-2 : tie.Need-returns-2 Inv-loop μ-loop
-returns-2 c = all-of-list _ _ _ (c .before .before .before .before .pre) (c .before .loop .inv) (c .loop-test .left) _ refl
+returns c = all-of-list _ _ (c .before .loop .inv .1) (c .before .before .before .before .pre) (c .before .loop .inv .0) (c .loop-test .left)
 
 pub lay-spec : {M : Type 1} → statement M
 lay-spec =
     tie.close
-    (tie.spec Inv-loop μ-loop loop-holds (λ c. search needs) (λ c. search needs) add-to (λ c κs. search needs)
-    (λ c. search needs) add-total (λ c. search needs) (λ c. search needs) loop-again (λ c. search needs) same-length
-    returns (λ c. search needs) returns-2)
+    (tie.spec Inv-loop μ-loop loop-holds (λ c. search needs) (λ c. search needs) put-requires (λ c. search needs) (λ c. search needs)
+    loop-again sub-n same-length returns)
