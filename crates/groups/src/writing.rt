@@ -44,12 +44,14 @@ fn magnitude(v: i64) -> u64
     if v < 0 { (!v) as u64 } else { v as u64 }
 }
 
-// The growth value at a place of the array. By cases: an array asked at a place that isn't written out is laid down anew for each question.
+// The growth value at a place of the array. By cases, of which the compiler makes a table: an array that is asked at a place known only
+// at run time is laid down anew each time.
 fn growth_at(i: usize) -> u64
     requires { ⌜ i < 9 ⌝ }
     ensures { λ r. ⌜ r ≡ getD growth i 0 ⌝ }
 {
     match i {
+        0 => GROWTH[0],
         1 => GROWTH[1],
         2 => GROWTH[2],
         3 => GROWTH[3],
@@ -58,11 +60,11 @@ fn growth_at(i: usize) -> u64
         6 => GROWTH[6],
         7 => GROWTH[7],
         8 => GROWTH[8],
-        _ => GROWTH[0],
+        _ => 0,
     }
 }
 
-// How many bytes an unsigned number takes, looked up. A number of that many bits takes n bytes, n its eighths and one, or one more: the
+// How many bytes an unsigned number takes, looked up. With n for the eighths of its bits and one, it takes n bytes or one more, and the
 // growth value between the two decides.
 fn looked_up(v: u64) -> Count
     ensures { λ r. ⌜ Takes (spell false 128 v) r ⌝ }
@@ -73,7 +75,7 @@ fn looked_up(v: u64) -> Count
     if growth <= v { Count(n + 1) } else { Count(n) }
 }
 
-// The same, with a test for one byte first: most numbers take one.
+// The same before a write, with a test for one byte first: most numbers take one.
 fn length_unsigned(v: u64) -> Count
     ensures { λ r. ⌜ Takes (spell false 128 v) r ⌝ }
 {
@@ -99,7 +101,7 @@ pub fn spelled_length(number: Value) -> Count
     ensures { λ r. ⌜ SpelledLength number r ⌝ }
 {
     match number {
-        Value::Unsigned(v) => length_unsigned(v),
+        Value::Unsigned(v) => looked_up(v),
         Value::Signed(v) => length_signed(v),
     }
 }

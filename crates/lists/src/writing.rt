@@ -1,7 +1,9 @@
 // Writing a list: the room is known before the first byte is stored.
 use bits::set_high_8_bit;
 use bits::take_low_7_bits;
-use uleb128::length_u64;
+use groups::Value;
+use groups::spelled_length;
+use uleb128::ONE_BYTE;
 use words::Count;
 use words::Place;
 use words::Refusal;
@@ -20,10 +22,7 @@ ghost use Rattle.lists.specs.Promise.{WritesList};
 // The most numbers of a list.
 const LIST_LIMIT: usize = 4096;
 
-// A number below this takes one byte.
-const ONE_BYTE: u64 = 128;
-
-// How many bytes the numbers' forms take in all.
+// How many bytes the numbers' forms take in all. No test for one byte here: it would be guessed wrong at each longer number.
 fn total_length(numbers: &[u64]) -> Count
     requires { ⌜ length (now numbers) ≤ listLimit ⌝ }
     ensures { λ r. ⌜ Takes (forms (now (numbers .entry))) r ⌝ }
@@ -32,7 +31,7 @@ fn total_length(numbers: &[u64]) -> Count
     let mut i: usize = 0;
     while i < numbers.len() {
         let v = numbers[i];
-        let count = length_u64(v);
+        let count = spelled_length(Value::Unsigned(v));
         let n = count.0;
         total += n;
         i += 1;

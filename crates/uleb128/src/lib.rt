@@ -14,6 +14,9 @@ pub use writing::length_u64;
 pub use writing::write_u32;
 pub use writing::write_u64;
 
+// A number below this takes one byte.
+pub const ONE_BYTE: u64 = 128;
+
 // What a reader of 64 bits answers: the number and its count of bytes, or why there is none.
 pub enum ReadU64 {
     Number(u64, Count),

@@ -1,5 +1,6 @@
 // The length of a number's form, and the writer. A number's form is the same at 64 and at 32 bits. They are a port of
 // secure-foundations/vest, `leb128.rs`, `length` and `serialize` (NOTICE), mended at zero.
+use crate::ONE_BYTE;
 use groups::Value;
 use groups::spelled_length;
 use groups::store;
@@ -8,10 +9,13 @@ use words::Place;
 use words::Written;
 ghost use Rattle.uleb128.specs.Promise.{LengthU64, LengthU32, WritesU64, WritesU32};
 
-// How many bytes the number takes: 1 to 10.
+// How many bytes the number takes: 1 to 10. Most numbers take one, and that is tested first.
 pub fn length_u64(v: u64) -> Count
     ensures { λ r. ⌜ LengthU64 v r ⌝ }
 {
+    if v < ONE_BYTE {
+        return Count(1);
+    }
     spelled_length(Value::Unsigned(v))
 }
 

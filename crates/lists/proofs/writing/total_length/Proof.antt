@@ -3,6 +3,7 @@ use Prim.Native.Nat.{_+_, _-_}
 use native.Mathlib.Omega.{arith}
 use borrow.Author.Needs.{needs}
 use lib.ListN.{length}
+use Rattle.uleb128.proofs.Forms.{form-takes}
 use Rattle.lists.proofs.TotalLoop.{Adding, none-added, one-added, all-added}
 use Rattle.lists.proofs.writing.total_length.Statement.{statement}
 use Rattle.lists.proofs.writing.total_length.Tie as tie
@@ -14,12 +15,12 @@ abbrev μ-loop : tie.MeasureT-loop
 μ-loop numbers total₀ i₀ total i = length numbers - i
 
 -- the invariant after a turn
-added : (c : tie.After-length-u64 Inv-loop μ-loop)
-    → Adding (c .before .before .before .before .before .args .numbers .now) (c .before .before .before .loop .total + c .length-u64 .result .0)
+added : (c : tie.After-spelled-length Inv-loop μ-loop)
+    → Adding (c .before .before .before .before .before .args .numbers .now) (c .before .before .before .loop .total + c .spelled-length .result .0)
     (c .before .before .before .loop .i + 1)
 added c =
     one-added _ (c .before .before .before .loop .inv) (search needs) (c .before .shared-slice-known2 .given _ .fits)
-    (c .length-u64 .ensures .is)
+    (form-takes _ (c .spelled-length .ensures) .is)
 
 loop-holds : tie.Need-loop-holds Inv-loop μ-loop
 loop-holds c = none-added _
