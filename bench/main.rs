@@ -39,7 +39,7 @@ fn our_list(numbers: &[u64], buffer: &mut [u8], at: usize) -> Result<usize, u8> 
 
 // Number after number, each by one call of a writer.
 fn our_writes(numbers: &[u64], out: &mut [u8]) -> usize {
-    numbers.iter().fold(0, |at, &v| at + unsafe { timed_write_u64(v, out.as_mut_ptr(), out.len(), at) } as usize)
+    numbers.iter().fold(0, |at, &v| at + our_write(v, out, at).unwrap())
 }
 
 fn writes_by_index(numbers: &[u64], out: &mut [u8]) -> usize {
@@ -91,7 +91,7 @@ impl Random {
         self.next() % n
     }
 
-    /// A number that takes so many bytes: the lowest bits at random, and the highest byte's not all zero.
+    /// A number that takes so many bytes.
     fn of_bytes(&mut self, n: u64) -> u64 {
         let low = if n == 1 { 0 } else { 1 << (7 * (n - 1)) };
         let high = if n == 10 { u64::MAX } else { (1 << (7 * n)) - 1 };

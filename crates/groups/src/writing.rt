@@ -66,24 +66,13 @@ fn growth_at(i: usize) -> u64
 
 // How many bytes an unsigned number takes, looked up. With n for the eighths of its bits and one, it takes n bytes or one more, and the
 // growth value between the two decides.
-fn looked_up(v: u64) -> Count
+fn length_unsigned(v: u64) -> Count
     ensures { λ r. ⌜ Takes (spell false 128 v) r ⌝ }
 {
     let zeros = u64::leading_zeros(v) as usize;
     let n = (72 - zeros) >> 3;
     let growth = growth_at(n - 1);
     if growth <= v { Count(n + 1) } else { Count(n) }
-}
-
-// The same before a write, with a test for one byte first: most numbers take one.
-fn length_unsigned(v: u64) -> Count
-    ensures { λ r. ⌜ Takes (spell false 128 v) r ⌝ }
-{
-    let growth = GROWTH[0];
-    if v < growth {
-        return Count(1);
-    }
-    looked_up(v)
 }
 
 // How many a signed one takes. It ends where what is left of m is below 64, so that the last byte's bit of weight 64 tells the sign: so
@@ -101,7 +90,7 @@ pub fn spelled_length(number: Value) -> Count
     ensures { λ r. ⌜ SpelledLength number r ⌝ }
 {
     match number {
-        Value::Unsigned(v) => looked_up(v),
+        Value::Unsigned(v) => length_unsigned(v),
         Value::Signed(v) => length_signed(v),
     }
 }

@@ -1,14 +1,12 @@
 -- Laying bytes down one after another where there is room for them: what a loop holds, over any bytes; then a number byte by byte, and a
 -- list number by number.
 --
---   put-keeps                     bytes stored leave the length as it was
 --   Laying all s at out to rest   of the bytes all, which go to the place at of s, those before the place to stand in out, and rest are left
 --   nothing-laid                  at first, all are left
 --   part-laid                     with a part of what is left stored, the rest of it is
 --   room-left                     there is room for what is left
 --   byte-put                      a number of 128 or more: its first byte stored, v div 128 is left
 --   last-put                      one below 128: its one byte stored, all is
---   rest-put                      what is left of a number stored, all is
 --   ninth-put                     behind nine bytes, what is left of a number of 64 bits is below 128
 --   room-next                     there is room for a list's next number,
 --   one-of-list                   which, stored, leaves those behind it
@@ -18,7 +16,7 @@
 --   list-laid                     any other is written by laying its forms down
 use Prim.Native.Nat.{ℕ, suc, _+_, _-_, _*_, _/_, _^_, _≤_, _<_}
 use mathlib.Core.Path.{_≡_, refl, ap, sym, _∙_}
-use mathlib.Core.List.{List, [], _∷_, _++_, append-nil}
+use mathlib.Core.List.{List, [], _∷_, _++_}
 use mathlib.Core.Bool.{Bool, true}
 use native.Mathlib.Nat.{mod-eq-of-lt}
 use native.Mathlib.Omega.{arith}
@@ -40,9 +38,6 @@ use Rattle.lists.specs.Inner.{Puts}
 use Rattle.lists.specs.Lists.{forms, listLimit}
 use Rattle.lists.specs.Promise.{WritesList}
 use Rattle.lists.proofs.TotalLoop.{forms-next, forms-end, length-next}
-
-pub put-keeps : {bytes s out : List ℕ} {at r : ℕ} → Puts bytes s at r out → length out ≡ length s
-put-keeps {bytes} {s} {at = at} w = ap length (w .leaves) ∙ length-sets s at bytes
 
 pub record Laying (all s : List ℕ) (at : ℕ) (out : List ℕ) (to : ℕ) (rest : List ℕ) : Type 0 where
   pub kept : length out ≡ length s
@@ -80,9 +75,6 @@ module _ (v rest : ℕ) {s : List ℕ} {at : ℕ} {out : List ℕ} {to : ℕ} (g
 
   pub last-put : rest < 128 → {bits : ℕ} → bits ≡ takeLow7Bits rest → Puts (form v) s at (to + 1) (set out to bits)
   last-put h p = all-laid (part-laid g (rest ∷ []) [] (form-small rest h) (ap (set out to) (p ∙ mod-eq-of-lt h)) refl) refl
-
-  pub rest-put : {p : ℕ} {after : List ℕ} → Puts (form rest) out to p after → Puts (form v) s at p after
-  rest-put w = all-laid (part-laid g (form rest) [] (sym (append-nil (form rest))) (w .leaves) (w .behind)) refl
 
   pub ninth-put : v < 2 ^ 64 → at + 9 ≤ to → rest < 128
   ninth-put f h =

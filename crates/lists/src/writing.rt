@@ -22,7 +22,7 @@ ghost use Rattle.lists.specs.Promise.{WritesList};
 // The most numbers of a list.
 const LIST_LIMIT: usize = 4096;
 
-// How many bytes the numbers' forms take in all. No test for one byte here: it would be guessed wrong at each longer number.
+// How many bytes the numbers' forms take in all.
 fn total_length(numbers: &[u64]) -> Count
     requires { ⌜ length (now numbers) ≤ listLimit ⌝ }
     ensures { λ r. ⌜ Takes (forms (now (numbers .entry))) r ⌝ }
@@ -53,9 +53,9 @@ fn list_fits(numbers: &[u64], size: usize, place: Place) -> bool
     has_room(size, place, total)
 }
 
-// Lays the form of what is left of a number down where there is room for it, and answers the place behind it. What is left tells where
-// the form ends, so that no length is asked again.
-fn put_rest(v: u64, buffer: &mut [u8], at: usize) -> usize
+// Lays a number's form down where there is room for it, and answers the place behind it. What is left of the number tells where its form
+// ends, so that its length isn't asked again.
+fn put(v: u64, buffer: &mut [u8], at: usize) -> usize
     requires { ⌜ at + length (form v) ≤ length (now buffer) ⌝ }
     ensures { λ r. ⌜ Puts (form v) (now (buffer .entry)) at r (now (buffer .exit)) ⌝ }
 {
@@ -77,23 +77,6 @@ fn put_rest(v: u64, buffer: &mut [u8], at: usize) -> usize
     let to = at + i;
     buffer[to] = bits;
     to + 1
-}
-
-// The same of a whole number, with a test for one byte first: most numbers take one.
-fn put(v: u64, buffer: &mut [u8], at: usize) -> usize
-    requires { ⌜ at + length (form v) ≤ length (now buffer) ⌝ }
-    ensures { λ r. ⌜ Puts (form v) (now (buffer .entry)) at r (now (buffer .exit)) ⌝ }
-{
-    let bits = take_low_7_bits(v);
-    let next = at + 1;
-    if v < ONE_BYTE {
-        buffer[at] = bits;
-        return next;
-    }
-    let byte = set_high_8_bit(bits);
-    buffer[at] = byte;
-    let rest = v / 128;
-    put_rest(rest, buffer, next)
 }
 
 // Lays the numbers' forms down at a place where there is room for them.

@@ -5,7 +5,7 @@ use Rattle.groups.proofs.writing.spelled_length.Statement.{statement}
 use Rattle.groups.proofs.writing.spelled_length.Tie as tie
 
 returns : tie.Need-returns
-returns c = rw (c .before .before .number .given .1) (c .looked-up .ensures)
+returns c = rw (c .before .before .number .given .1) (c .length-unsigned .ensures)
 
 returns-2 : tie.Need-returns-2
 returns-2 c = rw (c .before .before .number2 .given .1) (length-back (c .before .before .number2 .given .0 .0) (c .before .known-told2 .given .0 .1) (c .length-signed .ensures))
