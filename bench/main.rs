@@ -10,6 +10,7 @@ use std::io::{self, Write as _};
 use std::time::Instant;
 
 const LISTS: usize = 16;
+const NUMBERS: usize = 4096;
 const ROUNDS: usize = 200;
 
 // ---- ours
@@ -193,7 +194,7 @@ fn check(random: &mut Random) -> usize {
 /// The mean over the lists of each version's quickest sample, in nanoseconds for a number.
 fn time<F: Fn(&[u64], &mut [u8]) -> usize>(versions: &[F], lists: &[Vec<u64>], size: impl Fn(&[u64]) -> usize) -> Vec<f64> {
     let mut best = vec![vec![f64::MAX; lists.len()]; versions.len()];
-    let mut buffer = vec![0u8; 10 * LIST_LIMIT];
+    let mut buffer = vec![0u8; 10 * NUMBERS];
     for _ in 0..ROUNDS {
         for (i, numbers) in lists.iter().enumerate() {
             let room = size(numbers);
@@ -219,9 +220,9 @@ fn main() -> io::Result<()> {
     let mut random = Random(2026);
     writeln!(io::stdout(), "checked: {} cases, and the answers agree\n", check(&mut random))?;
     writeln!(io::stdout(), "| what | numbers | ours | ordinary | ratio |\n|---|---|---|---|---|")?;
-    let mut lists_of = |bytes| (0..LISTS).map(|_| list(&mut random, bytes, LIST_LIMIT)).collect();
+    let mut lists_of = |bytes| (0..LISTS).map(|_| list(&mut random, bytes, NUMBERS)).collect();
     let all: Vec<(&str, Vec<Vec<u64>>)> = MIXES.map(|(mix, bytes)| (mix, lists_of(bytes))).into();
-    let whole = 10 * LIST_LIMIT;
+    let whole = 10 * NUMBERS;
     for (mix, lists) in &all {
         let versions = LENGTHS.map(|(_, lengths)| move |numbers: &[u64], _: &mut [u8]| lengths(numbers));
         row("length", mix, &LENGTHS.map(|v| v.0), &time(&versions, lists, |_| whole))?;
@@ -230,7 +231,7 @@ fn main() -> io::Result<()> {
         row("`write_u64`", mix, &WRITES.map(|v| v.0), &time(&WRITES.map(|v| v.2), lists, |_| whole))?;
     }
     let versions = WRITE_LISTS.map(|(_, write)| move |numbers: &[u64], out: &mut [u8]| write(numbers, out, 0).unwrap());
-    for (room, size) in [("room that just fits", our_lengths as Lengths), ("room for ten bytes each", |_| 10 * LIST_LIMIT)] {
+    for (room, size) in [("room that just fits", our_lengths as Lengths), ("room for ten bytes each", |_| 10 * NUMBERS)] {
         for (mix, lists) in &all {
             row(&format!("`write_list`, {room}"), mix, &WRITE_LISTS.map(|v| v.0), &time(&versions, lists, size))?;
         }

@@ -2,7 +2,7 @@
 use std::slice::IterMut;
 
 /// The most numbers of a list.
-pub const LIST_LIMIT: usize = 4096;
+pub const LIST_LIMIT: usize = 16384;
 
 /// The refusals, by their numbers.
 pub const NO_ROOM: u8 = 5;

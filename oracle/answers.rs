@@ -87,7 +87,7 @@ fn set_down_line(frame: &Frame) -> String {
 }
 
 /// The most numbers of an answer slice, and what each is before.
-const MOST_OF_SLICE: u64 = 8_192;
+pub const MOST_OF_SLICE: u64 = 65_536;
 const BEFORE: u64 = 7777777777777777777;
 
 fn strict_line(frame: &Frame) -> String {

@@ -3,7 +3,8 @@
 //!   whole   those that the repository holds
 //!   more    those of the large run
 
-use crate::blocks::{starts, MOST};
+use crate::answers::MOST_OF_SLICE;
+use crate::blocks::{starts, MOST_OF_BLOCK, MOST_OF_LIST};
 use crate::cases::{all_bytes, each_length, filler, numbers, FAR, SPREAD};
 use crate::frames::{put, put_list, MOST_BYTES};
 use crate::listing;
@@ -59,6 +60,7 @@ pub fn more(input: &mut Vec<u8>) {
         }
     }
     turns_at_powers(input, 0..=255);
+    every_sort(input);
     long_blocks(input);
     long_lists(input);
     random_cases(input, 5, 100_000, 40);
@@ -261,23 +263,25 @@ fn needed_by(list: &[u64]) -> u64 {
 fn odd_frames(input: &mut Vec<u8>) {
     for place in [0, FAR] {
         let wrapping = [1 << 61, (1 << 61) + 1, 1 << 63, FAR];
-        for count in [1, 2, 3, 4_097, 1 << 32].into_iter().chain(wrapping) {
+        let above = MOST_OF_LIST as u64 + 1;
+        for count in [1, 2, 3, above, 1 << 32].into_iter().chain(wrapping) {
             for n in [0, 7, 8, 15, 16, 17] {
                 put(input, LIST, place, count, &filler(n));
             }
         }
     }
-    for size in [8_193, 1 << 32, (1 << 32) + 1, 1 << 63, FAR] {
+    let above = MOST_OF_SLICE + 1;
+    for size in [above, 1 << 32, (1 << 32) + 1, 1 << 63, FAR] {
         put(input, STRICT, size, 0, &[0x80, 0x01, 0x05]);
     }
-    put(input, STRICT, 8_193, 0, &[5; MOST + 1]);
+    put(input, STRICT, above, 0, &[5; MOST_OF_BLOCK + 1]);
     for op in [STEP_UNSIGNED, STEP_SIGNED, SET_DOWN, STRICT, TURN, LISTING] {
         put(input, op, 1, FAR, &[0x05, 0x81, 0x01]);
     }
     for code in 0..=2 {
         put(input, TURN, 1, code, &[0x05, 0x81, 0x01]);
     }
-    for a in [3, 4, 8_193, FAR] {
+    for a in [3, 4, above, FAR] {
         put(input, LISTING, a, 1, &[0x05, 0x81, 0x01]);
     }
 }
@@ -333,7 +337,7 @@ fn listings(input: &mut Vec<u8>) {
     let sides = tens.flat_map(|ten| [ten - 1, ten]);
     let forms: Vec<u8> = sides.flat_map(|v| form(U64, v)).collect();
     listed(input, &forms);
-    for count in [9, 10, 99, 100, 999, 1_000] {
+    for count in [9, 10, 99, 100, 999, 1_000, 9_999, 10_000] {
         listed(input, &tail(count));
         listed(input, &[&group(count)[..], &[0x80, 0x00, 0x80]].concat());
     }
@@ -349,29 +353,106 @@ fn group(count: usize) -> Vec<u8> {
     [tail(count - 1), vec![0x01]].concat()
 }
 
-/// Blocks of the most bytes and of one less; for the listing those of one more too. More of them,
-/// those of one more for the other ops, and lists at their limit are among the answers written down
-/// by hand.
+/// The forms of numbers, again and again; fives where the next does not fit.
+fn forms(numbers: &[i128], count: usize) -> Vec<u8> {
+    let all: Vec<u8> = numbers.iter().flat_map(|v| form(U64, *v)).collect();
+    let mut block: Vec<u8> = all.into_iter().cycle().take(count).collect();
+    block.truncate(*starts(&block).last().unwrap());
+    block.resize(count, 0x05);
+    block
+}
+
+/// Forms of each length, the longest first.
+fn mixed(count: usize) -> Vec<u8> {
+    let numbers: Vec<i128> = each_length(U64).into_iter().rev().collect();
+    forms(&numbers, count)
+}
+
+/// Gaps of two bytes, the first of three if the count is odd.
+fn gaps(count: usize) -> Vec<u8> {
+    [tail(count % 2), [0x80, 0x00].repeat(count / 2)].concat()
+}
+
+/// The start in the middle of all that a block has.
+fn middle(block: &[u8]) -> u64 {
+    let starts = starts(block);
+    starts[starts.len() / 2] as u64
+}
+
+/// Blocks of the most bytes and of one less, of each sort, and one that would seem short if its count
+/// were cut to 16 bits. They are long, so each comes with few ops, and with the others in the large
+/// run; those of one more, and lists at their limit, are among the answers written down by hand. Then
+/// a listing of some thousand bytes, and places that would be in a short block if they were cut.
 fn limits(input: &mut Vec<u8>) {
-    for count in [MOST - 1, MOST] {
-        put(input, STEP_UNSIGNED, 0, 0, &tail(count));
-        put(input, STEP_SIGNED, 0, 0, &group(count));
+    let (less, most) = (MOST_OF_BLOCK - 1, MOST_OF_BLOCK);
+    let middle = middle(&mixed(less));
+    let end = most as u64;
+    for (op, a, block) in [
+        (STEP_UNSIGNED, middle, mixed(less)),
+        (STEP_SIGNED, middle, mixed(most)),
+        (STRICT, 2, vec![5; less]),
+        (STEP_UNSIGNED, 0, tail(most)),
+        (SET_DOWN, 1, tail(less)),
+        (SET_DOWN, 0, tail(most + 17)),
+        (LISTING, 0, vec![0xff; less]),
+        (STRICT, 1, vec![0xff; most]),
+        (STEP_SIGNED, 0, group(less)),
+        (SET_DOWN, 1, group(most)),
+        (LISTING, 0, group(most)),
+        (STEP_UNSIGNED, end - 2, gaps(most)),
+        (SET_DOWN, end + 1, gaps(most)),
+        (STRICT, 1, gaps(less)),
+    ] {
+        put(input, op, a, 0, &block);
     }
-    put(input, SET_DOWN, 1, 0, &group(MOST - 1));
-    put(input, SET_DOWN, 1, 0, &tail(MOST));
-    put(input, STRICT, 2, 0, &[5; MOST - 1]);
-    for count in MOST - 1..=MOST + 1 {
-        listed(input, &tail(count));
-        listed(input, &group(count));
-        listed(input, &listing::input("above").unwrap()[..count]);
+    listed(input, &listing::input("limit").unwrap()[..4_097]);
+    let document = listing::input("document").unwrap();
+    for place in (1 << 16) - 1..=(1 << 16) + 18 {
+        at_places(input, &document, [place]);
+        put_list(input, place, &[300], &filler(18));
+    }
+}
+
+/// Blocks of every sort on both sides of the most bytes, by every op. Then longer ones, which would
+/// seem short enough if their count were cut to 16 bits.
+fn every_sort(input: &mut Vec<u8>) {
+    let short: Vec<i128> = (0..128).collect();
+    for count in MOST_OF_BLOCK - 1..=MOST_OF_BLOCK + 1 {
+        for block in [
+            forms(&short, count),
+            mixed(count),
+            forms(&[U64.largest()], count),
+            tail(count),
+            vec![0xff; count],
+            group(count),
+            gaps(count),
+        ] {
+            let end = count as u64;
+            let last = *starts(&block[..count - 1]).last().unwrap() as u64;
+            let mut places = vec![0, 1, middle(&block), last, end, end + 1];
+            places.sort();
+            places.dedup();
+            at_places(input, &block, places);
+            let size = groups(&block) as u64;
+            let mut sizes = vec![0, size.saturating_sub(1), size, size + 1];
+            sizes.dedup();
+            into_slices(input, &block, sizes);
+            listed(input, &block);
+        }
+    }
+    for count in [(1 << 16) + 17, 1 << 17, MOST_BYTES as usize] {
+        let block = filler(count);
+        at_places(input, &block, [0, count as u64]);
+        into_slices(input, &block, [1]);
+        listed(input, &block);
     }
 }
 
 /// Random blocks around the most bytes.
 fn long_blocks(input: &mut Vec<u8>) {
     let mut random = Random(7);
-    for count in MOST - 3..=MOST + 3 {
-        for _ in 0..10 {
+    for count in MOST_OF_BLOCK - 3..=MOST_OF_BLOCK + 3 {
+        for _ in 0..2 {
             let block = random.block(count);
             for op in WITH_PLACE {
                 let place = random.place_of(&block);
@@ -385,37 +466,41 @@ fn long_blocks(input: &mut Vec<u8>) {
     }
 }
 
-/// Lists of the longest forms around the most numbers, with room and without; one that its frame
-/// does not hold; and the longest that a frame does.
+/// Lists around the most numbers, of the shortest, of the longest and of random forms: at place 0 and
+/// behind a byte, with just enough room and one byte less; at the largest place; and where the frame
+/// does not hold them. Then lists that are longer by far; and no numbers into the longest buffer.
 fn long_lists(input: &mut Vec<u8>) {
-    for count in MOST - 1..=MOST + 1 {
-        let list = vec![u64::MAX; count];
-        for place in [0, 3, 4, FAR] {
-            put_list(input, place, &list, &filler(10 * count + 3));
+    let mut random = Random(11);
+    for count in MOST_OF_LIST - 1..=MOST_OF_LIST + 1 {
+        let mixed: Vec<u64> = (0..count).map(|_| random.number(U64) as u64).collect();
+        for list in [vec![5; count], vec![u64::MAX; count], mixed] {
+            let needed = needed_by(&list) as usize;
+            for (place, room) in [(0, needed), (0, needed - 1), (1, needed + 1), (1, needed)] {
+                put_list(input, place, &list, &filler(room));
+            }
+            put_list(input, FAR, &list, &filler(1));
         }
-        put_list(input, 0, &list, &[]);
         put(input, LIST, 0, count as u64, &filler(8 * count - 1));
     }
-    put_list(input, 0, &[5; 25_000], &[]);
-    put_list(input, 0, &[], &filler(200_000));
+    let longest = MOST_BYTES as usize / 8;
+    for count in [MOST_OF_LIST + 17, 2 * MOST_OF_LIST, longest - 3] {
+        put_list(input, 0, &vec![5; count], &filler(24));
+    }
+    put_list(input, 0, &[], &filler(MOST_BYTES as usize));
 }
 
 /// Random blocks around the most bytes: of parts of every kind, of forms with one of them damaged,
-/// and of numbers of one byte, which have the longest text. Then blocks that are longer by far, two
-/// of which would seem short if their count were cut to 16 bits.
+/// and of numbers of one byte, which have the longest text.
 fn long_listings(input: &mut Vec<u8>) {
     let mut random = Random(10);
-    for count in MOST - 3..=MOST + 3 {
-        for _ in 0..10 {
+    for count in MOST_OF_BLOCK - 3..=MOST_OF_BLOCK + 3 {
+        for _ in 0..2 {
             listed(input, &random.block(count));
             let forms = random.list_block(count);
             listed(input, &random.damaged(forms));
             let short: Vec<u8> = (0..count).map(|_| random.byte() % 128).collect();
             listed(input, &short);
         }
-    }
-    for count in [1 << 16, (1 << 16) + 17, MOST_BYTES as usize] {
-        listed(input, &filler(count));
     }
 }
 

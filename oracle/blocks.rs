@@ -1,5 +1,6 @@
 //! Document 01's rules for blocks and lists.
 //!
+//!   MOST_OF_BLOCK, MOST_OF_LIST   the most bytes and the most numbers
 //!   Part, parts   a group or the tail of a block; all that a block has, in order
 //!   starts        the starts of a block, in order
 //!   Step          what a step says
@@ -15,8 +16,12 @@ use crate::numbers::{
     PLACE, TOO_LONG,
 };
 
-/// The most bytes of a block, and the most numbers of a list.
-pub const MOST: usize = 4_096;
+/// Document 02, #105: "Refusal 7 starts above 65,536 bytes for blocks and above 16,384 numbers for
+/// lists."
+pub const MOST_OF_BLOCK: usize = 65_536;
+
+/// "A list here is one handed in": strict reading may give more numbers.
+pub const MOST_OF_LIST: usize = 16_384;
 
 pub struct Part<'a> {
     pub place: usize,
@@ -71,7 +76,7 @@ pub fn meaning(rule: Rule, bytes: &[u8]) -> Step {
 
 /// The tests that a step and set-down begin with.
 fn test_7_and_4(block: &[u8], place: u64) -> Result<(), Refusal> {
-    if block.len() > MOST {
+    if block.len() > MOST_OF_BLOCK {
         return Err(TOO_LONG);
     }
     if place as u128 > block.len() as u128 {
@@ -112,7 +117,7 @@ pub fn set_down(block: &[u8], place: u64) -> Result<usize, Refusal> {
 /// "Tests 7, then the first fault by place (2 or 3 in a group, 1 for a tail, even of ten bytes or
 /// more), then 5. It fills the front of the answer slice, leaves the rest, and gives the count."
 pub fn strict(block: &[u8], slice: &mut [u64]) -> Result<usize, Refusal> {
-    if block.len() > MOST {
+    if block.len() > MOST_OF_BLOCK {
         return Err(TOO_LONG);
     }
     let mut numbers = Vec::new();
@@ -133,14 +138,14 @@ pub fn strict(block: &[u8], slice: &mut [u64]) -> Result<usize, Refusal> {
 
 /// "Tests 7, then 5", and "puts the forms one after another". Gives the count of bytes.
 pub fn write_list(list: &[u64], buffer: &mut [u8], place: u64) -> Result<usize, Refusal> {
-    if list.len() > MOST {
+    if list.len() > MOST_OF_LIST {
         return Err(TOO_LONG);
     }
     let bytes: Vec<u8> = list
         .iter()
         .flat_map(|v| form(Rule::U64, *v as i128))
         .collect();
-    if bytes.len() <= MOST {
+    if bytes.len() <= MOST_OF_BLOCK {
         let mut back = vec![0; list.len()];
         assert!(strict(&bytes, &mut back) == Ok(list.len()) && back == list);
     }

@@ -2,14 +2,15 @@
 //! after those for numbers, here, those for blocks, lists and turns from block_cases.rs.
 //!
 //!   committed   the cases that the repository holds
-//!   large       these, all pairs of bytes, more turns, long frames and blocks, and 1,220,000
-//!               random cases more
+//!   large       these, the long ones that are written down by hand, all pairs of bytes, more turns,
+//!               long frames and blocks, and 1,220,000 random cases more
 //!
 //! Nothing here says what an answer should be. The same bytes come out on every machine.
 
 use crate::block_cases;
+use crate::blocks::MOST_OF_BLOCK;
 use crate::frames::{put, MOST_BYTES};
-use crate::known::put_known;
+use crate::known::{put_known, put_long};
 use crate::numbers::{form, length, power, Rule, GROWTH};
 use crate::random::Random;
 use Rule::*;
@@ -42,9 +43,11 @@ pub fn committed() -> Vec<u8> {
 pub fn large() -> Vec<u8> {
     let mut input = Vec::new();
     whole(&mut input);
+    put_long(&mut input);
     pairs(&mut input, &all_bytes());
-    for count in [65_535, 65_536, 65_537, MOST_BYTES as usize] {
-        long_frame(&mut input, count);
+    for count in (MOST_OF_BLOCK..=MOST_OF_BLOCK + 2).chain([MOST_BYTES as usize]) {
+        long_reads(&mut input, count);
+        long_writes(&mut input, &WRITERS, count);
     }
     random_cases(&mut input, 2, 1_000_000);
     block_cases::more(&mut input);
@@ -63,8 +66,9 @@ fn whole(input: &mut Vec<u8>) {
     starts(input);
     rooms(input);
     odd_frames(input);
-    // One byte more than a block may have: the number desk knows no such limit.
-    long_frame(input, 4_097);
+    // The number desk knows no limit as a block has: the number begins where the longest block ends.
+    long_reads(input, MOST_OF_BLOCK + 2);
+    long_writes(input, &WRITERS[..1], MOST_OF_BLOCK + 2);
     random_cases(input, 1, 5_000);
     block_cases::whole(input);
 }
@@ -251,16 +255,18 @@ fn odd_frames(input: &mut Vec<u8>) {
     }
 }
 
-/// A number at the very end of many bytes, read and written.
-fn long_frame(input: &mut Vec<u8>, count: usize) {
-    let mut bytes = filler(count);
-    let place = count as u64 - 2;
-    for (op, _) in WRITERS {
-        put(input, op, 300, place, &bytes);
-    }
-    bytes[count - 2..].copy_from_slice(&[0x80, 0x01]);
+/// A number read at the very end of many bytes.
+fn long_reads(input: &mut Vec<u8>, count: usize) {
+    let bytes = [&filler(count - 2)[..], &[0x80, 0x01]].concat();
     for (op, _) in READERS {
-        put(input, op, place, 0, &bytes);
+        put(input, op, count as u64 - 2, 0, &bytes);
+    }
+}
+
+/// A number written there.
+fn long_writes(input: &mut Vec<u8>, writers: &[(u8, Rule)], count: usize) {
+    for (op, _) in writers {
+        put(input, *op, 300, count as u64 - 2, &filler(count));
     }
 }
 

@@ -8,7 +8,7 @@
 //!   list      a frame as a line to read
 
 /// The most bytes that a frame may have behind its header.
-pub const MOST_BYTES: u32 = 200_000;
+pub const MOST_BYTES: u32 = 300_000;
 
 /// op (1 byte), a (8), b (8), n (4), the low byte first in each.
 const HEADER: usize = 21;

@@ -1,10 +1,11 @@
-//! Answers written down by hand from document 01, from document 02 (#101) and from the examples of
-//! DWARF 5, so that no expected output rests on this program's word alone.
+//! Answers written down by hand from document 01, from document 02 (#101, #105) and from the examples
+//! of DWARF 5, so that no expected output rests on this program's word alone.
 //!
 //!   READ, WRITE, LENGTH   the cases for numbers, each with its answer line
 //!   BLOCK, LIST, TURN     those for blocks, lists and turns
 //!   put_limits            those with a block or list as long as it may be, or longer
-//!   put_known             all of them as frames
+//!   put_known             all of these as frames
+//!   put_long              those of the large run alone
 //!   LISTING               the named inputs for the listing, each with its text
 //!   TEXT                  other blocks, each with the text of its listing
 //!   check                 whether this program gives every one of these answers
@@ -13,6 +14,7 @@ use crate::answers::answer;
 use crate::frames::{frames, list, put, put_list};
 use crate::listing;
 use crate::numbers::GROWTH;
+use std::fmt::Write as _;
 
 /// (ops, place, bytes in hex, answer); of strict reading the size of the slice, and no place
 type Read = (&'static [u8], u64, &'static str, &'static str);
@@ -28,6 +30,8 @@ type Turn = (&'static [u64], i128, &'static str);
 /// The 17 bytes of document 01's listing, and the same with the two bytes at 3 mended.
 const DOCUMENT: &str = "00 80 01 80 00 ff ff ff ff ff ff ff ff ff 02 05 83";
 const MENDED: &str = "00 80 01 07 ff ff ff ff ff ff ff ff ff 02 05 83";
+
+const LARGEST: u64 = 18446744073709551615;
 
 const TEN_80: &str = "80 80 80 80 80 80 80 80 80 80";
 
@@ -260,7 +264,7 @@ const BLOCK: &[Read] = &[
     // What the list below wrote, read back.
     (&[15], 5, "00 7f 80 01 b9 64 ff ff ff ff ff ff ff ff ff 01", "count 5 0 127 128 12857 18446744073709551615"),
     // A slice that is not asked for.
-    (&[15], 8193, "05", "unknown"),
+    (&[15], 65537, "05", "unknown"),
     (&[15], 18446744073709551615, "", "unknown"),
 ];
 
@@ -364,11 +368,15 @@ fn bytes_of(hex: &str) -> Vec<u8> {
 
 /// The answer line of a listing. Its hex is made here and not by `hex`, which the answers use.
 fn text_line(text: &str) -> String {
-    let digits = |byte| format!("{byte:02x}");
-    "text ".to_string() + &text.bytes().map(digits).collect::<String>()
+    let mut line = "text ".to_string();
+    for byte in text.bytes() {
+        write!(line, "{byte:02x}").unwrap();
+    }
+    line
 }
 
-/// Adds every known case to an input, and gives the answers to them in the same order.
+/// Adds the known cases that the repository holds to an input, and gives their answers in the same
+/// order.
 pub fn put_known(input: &mut Vec<u8>) -> Vec<String> {
     let mut lines = Vec::new();
     for (ops, place, bytes, line) in READ {
@@ -420,61 +428,99 @@ pub fn put_known(input: &mut Vec<u8>) -> Vec<String> {
     lines
 }
 
-/// Fives in blocks and lists: the most that there may be, into the largest slice that may be asked
-/// for too; the block with the longest listing; and one byte or number more, refused before all
-/// else that is wrong.
+/// Fives in blocks and lists: some thousands, and the most that there may be; then one byte or number
+/// more, refused before all else that is wrong, and the longest list that a frame holds.
 fn put_limits(input: &mut Vec<u8>) -> Vec<String> {
     let mut lines = Vec::new();
-    let all = vec![5; 4096];
+    for count in [4097, 65536] {
+        let all = vec![5; count];
+        for (op, a, line) in [
+            (12, count - 1, format!("number 5 1 {count}")),
+            (13, count, format!("finished {count}")),
+            (14, count, format!("start {count}")),
+            (15, count, format!("count {count}{}", " 5".repeat(count))),
+        ] {
+            put(input, op, a as u64, 0, &all);
+            lines.push(line);
+        }
+        put(input, 18, 0, 0, &vec![0x80; count]);
+        lines.push(text_line(&format!("place what value\n0 tail {count}\n")));
+    }
     for (op, a, line) in [
-        (12, 4095, "number 5 1 4096"),
-        (13, 4096, "finished 4096"),
-        (14, 4096, "start 4096"),
+        (12, 65536, "refused 7"),
+        (13, 65537, "refused 7"),
+        (14, 65538, "refused 7"),
+        (15, 1, "refused 7 7777777777777777777"),
+        // `refused 7` and a newline.
+        (18, 0, "text 7265667573656420370a"),
     ] {
-        put(input, op, a, 0, &all);
+        put(input, op, a, 0, &too_long());
         lines.push(line.to_string());
     }
-    put(input, 15, 8192, 0, &all);
-    let left = " 7777777777777777777".repeat(4096);
-    lines.push("count 4096".to_string() + &" 5".repeat(4096) + &left);
+    for count in [4097, 16384] {
+        put_list(input, 1, &vec![5; count], &vec![0xa5; count + 2]);
+        lines.push(format!("count {count} a5{}a5", "05".repeat(count)));
+    }
+    put_list(input, 2, &[5; 16385], &[0xa5; 6]);
+    lines.push("refused 7 a5a5a5a5a5a5".to_string());
+    put_list(input, 1, &[5; 37500], &[]);
+    lines.push("refused 7 -".to_string());
+    // 65,540 bytes: a list may have more than a block, and 5 is all that is wrong.
+    put_list(input, 2, &[LARGEST; 6554], &[0xa5; 6]);
+    lines.push("refused 5 a5a5a5a5a5a5".to_string());
+    lines
+}
 
-    // A row for every byte, and no number of one byte has more digits.
-    put(input, 18, 0, 0, &[127; 4096]);
+/// One byte too many. Place 65,536 is in the middle of a group, which is a gap; place 65,537 is the
+/// end, and place 65,538 past it.
+fn too_long() -> Vec<u8> {
+    [&[5; 65535][..], &[0x80, 0x00]].concat()
+}
+
+/// The known cases of the large run alone: they or their lines are long. Gives the answers as
+/// `put_known` does.
+pub fn put_long(input: &mut Vec<u8>) -> Vec<String> {
+    let mut lines = Vec::new();
+    // The longest listing: a row for every byte, and no number of one byte has more digits.
+    put(input, 18, 0, 0, &[127; 65536]);
     let mut text = "place what value\n".to_string();
-    text.extend((0..4096).map(|place| format!("{place} number 127\n")));
+    text.extend((0..65536).map(|place| format!("{place} number 127\n")));
     lines.push(text_line(&text));
 
-    // Place 4,096 is in the middle of a group, place 4,097 the end, place 4,098 past it.
-    let too_long = [&[5; 4095][..], &[0x80, 0x00]].concat();
-    for (op, places) in [
-        (12, &[4096, 4097, 4098][..]),
-        (13, &[4096, 4097, 4098]),
-        (14, &[0, 4098]),
-    ] {
-        for place in places {
-            put(input, op, *place, 0, &too_long);
+    // A slice one number too small, and the largest with one number in it.
+    let left = " 7777777777777777777".repeat(65535);
+    put(input, 15, 65535, 0, &[5; 65536]);
+    lines.push("refused 5".to_string() + &left);
+    put(input, 15, 65536, 0, &[5]);
+    lines.push("count 1 5".to_string() + &left);
+
+    for op in [12, 13, 14] {
+        for place in [0, 65535, 65536, 65537, 65538] {
+            put(input, op, place, 0, &too_long());
             lines.push("refused 7".to_string());
         }
     }
-    put(input, 15, 1, 0, &too_long);
-    lines.push("refused 7 7777777777777777777".to_string());
-    // `refused 7` and a newline.
-    put(input, 18, 0, 0, &too_long);
-    lines.push("text 7265667573656420370a".to_string());
 
-    // A list may have more bytes than a block.
-    let list = [&[128][..], &[5; 4095]].concat();
-    put_list(input, 1, &list, &[0xa5; 4099]);
-    lines.push("count 4097 a58001".to_string() + &"05".repeat(4095) + "a5");
-    put_list(input, 2, &[5; 4097], &[0xa5; 6]);
-    lines.push("refused 7 a5a5a5a5a5a5".to_string());
+    // The longest list in a block of the most bytes, and the block read back.
+    let block = [0x80, 0x80, 0x80, 0x01].repeat(16384);
+    put_list(input, 0, &[2097152; 16384], &[0xa5; 65536]);
+    lines.push("count 65536 ".to_string() + &"80808001".repeat(16384));
+    put(input, 15, 16384, 0, &block);
+    lines.push("count 16384".to_string() + &" 2097152".repeat(16384));
+
+    // With more bytes than a block may have, and one number more.
+    put_list(input, 1, &[LARGEST; 16384], &[0xa5; 163841]);
+    lines.push("count 163840 a5".to_string() + &"ffffffffffffffffff01".repeat(16384));
+    put_list(input, 1, &[LARGEST; 16385], &[0xa5; 163851]);
+    lines.push("refused 7 ".to_string() + &"a5".repeat(163851));
     lines
 }
 
 /// Refuses to go on if an answer is not the one written down.
 pub fn check() -> Result<(), String> {
     let mut known = Vec::new();
-    let lines = put_known(&mut known);
+    let mut lines = put_known(&mut known);
+    lines.extend(put_long(&mut known));
     let items = frames(&known);
     if items.len() != lines.len() {
         return Err(format!(
@@ -486,9 +532,11 @@ pub fn check() -> Result<(), String> {
     for (item, line) in items.iter().zip(&lines) {
         let given = answer(item);
         if given != *line {
+            let same = given.bytes().zip(line.bytes()).take_while(|(a, b)| a == b);
             return Err(format!(
-                "{}: `{given}`, by the documents `{line}`",
-                list(item)
+                "{:.200}: `{given:.200}`, by the documents `{line:.200}`, the same for {} characters",
+                list(item),
+                same.count()
             ));
         }
     }

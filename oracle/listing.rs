@@ -3,13 +3,13 @@
 //!   listing         the text for an input
 //!   INPUTS, input   the names of inputs, and an input by its name
 
-use crate::blocks::{meaning, parts, Step, MOST};
+use crate::blocks::{meaning, parts, Step, MOST_OF_BLOCK};
 use crate::numbers::{Rule, NOT_SHORTEST, OVERFLOW, TOO_LONG};
 use crate::random::Random;
 
 /// "The last column is the number, or else the length. Rule: unsigned."
 pub fn listing(input: &[u8]) -> String {
-    if input.len() > MOST {
+    if input.len() > MOST_OF_BLOCK {
         return format!("refused {TOO_LONG}\n");
     }
     let mut text = "place what value\n".to_string();
@@ -38,9 +38,10 @@ pub fn input(name: &str) -> Option<Vec<u8>> {
         "mended" => at_3(&[0x07]),
         "empty" => Vec::new(),
         "tail" => vec![0x80; 12],
-        "limit" => mix(MOST),
-        "above" => mix(MOST + 1),
-        "long" => mix(100_000),
+        "limit" => mix(MOST_OF_BLOCK),
+        "above" => mix(MOST_OF_BLOCK + 1),
+        // More than the limit and a full pipe together: who reads no further leaves some unwritten.
+        "long" => mix(150_000),
         _ => return None,
     })
 }

@@ -4,7 +4,7 @@
 //!   few, many   what is tried
 //!   hold        runs a command on each and says where it parts from the listing
 
-use crate::blocks::MOST;
+use crate::blocks::MOST_OF_BLOCK;
 use crate::listing::{input, listing, INPUTS};
 use crate::random::Random;
 use std::ffi::{c_int, c_ulong};
@@ -50,10 +50,11 @@ pub fn few() -> Vec<Try> {
     lengths(&mut tries, 0..=40);
     for (name, sizes) in [
         ("document", [1, 7]),
-        ("limit", [61, 4_093]),
-        ("long", [1_021, MOST]),
+        ("limit", [61, MOST_OF_BLOCK - 1]),
+        ("above", [1_021, MOST_OF_BLOCK]),
+        ("long", [1_021, MOST_OF_BLOCK]),
     ] {
-        pieces(&mut tries, name.to_string(), &input(name).unwrap(), sizes);
+        pieces(&mut tries, name.to_string(), &input(name).unwrap(), &sizes);
     }
     tries
 }
@@ -63,7 +64,7 @@ pub fn many() -> Vec<Try> {
     lengths(&mut tries, 41..=70);
     for count in 0..=70 {
         let block = Random(70 + count as u64).block(count);
-        pieces(&mut tries, format!("{count} bytes"), &block, [1, 7]);
+        pieces(&mut tries, format!("{count} bytes"), &block, &[1, 7]);
     }
     around_powers(&mut tries);
     around_limit(&mut tries);
@@ -80,12 +81,12 @@ fn whole(tries: &mut Vec<Try>, name: String, input: Vec<u8>) {
     tries.push(Try { name, input, feed });
 }
 
-fn pieces(tries: &mut Vec<Try>, name: String, input: &[u8], sizes: [usize; 2]) {
+fn pieces(tries: &mut Vec<Try>, name: String, input: &[u8], sizes: &[usize]) {
     for size in sizes {
         tries.push(Try {
             name: name.clone(),
             input: input.to_vec(),
-            feed: Feed::Pieces(size),
+            feed: Feed::Pieces(*size),
         });
     }
 }
@@ -99,22 +100,28 @@ fn lengths(tries: &mut Vec<Try>, counts: impl IntoIterator<Item = usize>) {
 
 /// Where a buffer of some size in between would be full.
 fn around_powers(tries: &mut Vec<Try>) {
-    let powers = (6..).map(|k| 1 << k).take_while(|power| *power <= MOST);
+    let powers = (6..)
+        .map(|k| 1 << k)
+        .take_while(|power| *power <= MOST_OF_BLOCK);
     for power in powers {
         for count in power - 1..=power + 1 {
             let block = Random(count as u64).block(count);
-            pieces(tries, format!("{count} bytes"), &block, [61, power / 2]);
+            pieces(tries, format!("{count} bytes"), &block, &[61, power / 2]);
             whole(tries, format!("{count} bytes"), block);
         }
     }
 }
 
+/// Also with the last one or two bytes alone; and far above it, where the count would be 0 if it were
+/// cut to 16 bits, and where it is more than a pipe holds.
 fn around_limit(tries: &mut Vec<Try>) {
-    for count in [MOST - 1, MOST, MOST + 1, MOST + 2, MOST + 5_000, 100_000] {
+    let most = MOST_OF_BLOCK;
+    for count in [most - 1, most, most + 1, most + 2, 2 * most, 1_000_000] {
         for byte in [0x00, 0x7f, 0x80, 0xff] {
             let name = format!("{count} bytes {byte:02x}");
-            pieces(tries, name.clone(), &vec![byte; count], [1_021, MOST]);
-            whole(tries, name, vec![byte; count]);
+            let block = vec![byte; count];
+            pieces(tries, name.clone(), &block, &[1_021, most - 1, most]);
+            whole(tries, name, block);
         }
     }
 }
@@ -208,8 +215,10 @@ fn wait_until_read(pipe: &ChildStdin) {
 /// What the program says on standard error. It is settled between the program and its callers, and
 /// no document has it.
 fn said(input: &[u8]) -> String {
-    if input.len() > MOST {
-        return format!("list: a block has at most {MOST} bytes, and the input has more\n");
+    if input.len() > MOST_OF_BLOCK {
+        return format!(
+            "list: a block has at most {MOST_OF_BLOCK} bytes, and the input has more\n"
+        );
     }
     String::new()
 }

@@ -10,7 +10,7 @@ ghost use Rattle.answers.specs.Frames.{Within};
 const HEADER: usize = 21;
 
 // The most bytes that a frame has behind those.
-pub(crate) const MOST_BYTES: usize = 200000;
+pub(crate) const MOST_BYTES: usize = 300000;
 
 pub(crate) struct Frame {
     pub(crate) op: u8,

@@ -14,16 +14,9 @@ fn text_hex(text: &[u8], count: Count, out: &mut [u8], filled: Count) -> Count {
     hex(&text[0..n], out, filled)
 }
 
-// The line for the listing of a block, whose text goes by way of a buffer. It takes the array whole: to lend one as a slice where
-// it is made costs the check a step for each of its bytes.
-fn list_by(block: &[u8], text: &mut [u8; TEXT_ROOM], out: &mut [u8]) -> Count {
+// The line for the listing of a block, whose text goes by way of a buffer.
+pub(crate) fn list(block: &[u8], text: &mut [u8; TEXT_ROOM], out: &mut [u8]) -> Count {
     let listed = lay_listing(block, text);
     let named = says(b"text ").lay(out, Count(0));
     text_hex(text, listed, out, named)
-}
-
-// The line for the listing of a block.
-pub(crate) fn list(block: &[u8], out: &mut [u8]) -> Count {
-    let mut text = [0u8; TEXT_ROOM];
-    list_by(block, &mut text, out)
 }

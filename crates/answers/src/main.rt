@@ -12,11 +12,13 @@ mod writes;
 use frames::Coming;
 use frames::MOST_BYTES;
 use libc::STDOUT_FILENO;
+use listing::TEXT_ROOM;
+use slices::MOST_NUMBERS;
 use texts::word;
 use words::Count;
 
-// The longest line has 400,011 bytes.
-const OUTPUT: usize = 409600;
+// The longest line is `text `, two digits for each byte of a listing, and the newline.
+const OUTPUT: usize = 6 + 2 * TEXT_ROOM;
 
 // Writes the line that fills so many bytes, with its newline, and says whether that could be done.
 fn write_line(output: &mut [u8], filled: Count) -> bool {
@@ -29,7 +31,12 @@ fn write_line(output: &mut [u8], filled: Count) -> bool {
 }
 
 // Answers the next frame, and says whether to go on: a frame came, and its line could be written.
-fn answer_next(input: &mut [u8], output: &mut [u8]) -> bool {
+fn answer_next(
+    input: &mut [u8],
+    slots: &mut [u64],
+    text: &mut [u8; TEXT_ROOM],
+    output: &mut [u8],
+) -> bool {
     match frames::next_frame(input) {
         Coming::End => false,
         Coming::Cut => {
@@ -38,7 +45,7 @@ fn answer_next(input: &mut [u8], output: &mut [u8]) -> bool {
         }
         Coming::Whole(frame) => {
             let n = frame.n;
-            let filled = ops::answer(frame, &mut input[0..n], output);
+            let filled = ops::answer(frame, &mut input[0..n], slots, text, output);
             write_line(output, filled)
         }
     }
@@ -48,18 +55,26 @@ fn answer_next(input: &mut [u8], output: &mut [u8]) -> bool {
 // answer, from 2^64 - 1: no input has so many.
 //
 // It takes the arrays whole: to lend one as a slice where it is made costs the check a step for each of its bytes.
-fn answer_all(input: &mut [u8; MOST_BYTES], output: &mut [u8; OUTPUT]) {
+fn answer_all(
+    input: &mut [u8; MOST_BYTES],
+    slots: &mut [u64; MOST_NUMBERS],
+    text: &mut [u8; TEXT_ROOM],
+    output: &mut [u8; OUTPUT],
+) {
     let mut left = u64::MAX;
     while 0 < left {
         left -= 1;
-        if !answer_next(input, output) {
+        if !answer_next(input, slots, text, output) {
             return;
         }
     }
 }
 
+// The arrays are made once, and not for each frame that needs one: to fill it takes longer than most ops do.
 fn main() {
     let mut input = [0u8; MOST_BYTES];
+    let mut slots = [0u64; MOST_NUMBERS];
+    let mut text = [0u8; TEXT_ROOM];
     let mut output = [0u8; OUTPUT];
-    answer_all(&mut input, &mut output);
+    answer_all(&mut input, &mut slots, &mut text, &mut output);
 }

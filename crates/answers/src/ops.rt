@@ -10,6 +10,7 @@ use crate::slices;
 use crate::writes;
 use blocks::Cursor;
 use blocks::Rule;
+use listing::TEXT_ROOM;
 use words::Count;
 use words::Place;
 
@@ -56,12 +57,18 @@ fn look(frame: Frame, bytes: &[u8]) -> Line {
 
 // The line for a frame with these bytes, laid down at the front of the output, without its newline; and how many bytes it
 // fills.
-pub(crate) fn answer(frame: Frame, bytes: &mut [u8], out: &mut [u8]) -> Count {
+pub(crate) fn answer(
+    frame: Frame,
+    bytes: &mut [u8],
+    slots: &mut [u64],
+    text: &mut [u8; TEXT_ROOM],
+    out: &mut [u8],
+) -> Count {
     let op = frame.op;
     match op {
-        5..=8 | 16 => writes::answer(frame, bytes, out),
-        15 => slices::read_strict(frame.a, bytes, out),
-        18 => listings::list(bytes, out),
+        5..=8 | 16 => writes::answer(frame, bytes, slots, out),
+        15 => slices::read_strict(frame.a, bytes, slots, out),
+        18 => listings::list(bytes, text, out),
         _ => look(frame, bytes).lay(out, Count(0)),
     }
 }

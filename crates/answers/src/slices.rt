@@ -4,10 +4,19 @@ use texts::decimal;
 use texts::word;
 use words::Count;
 
-// The most numbers of an answer slice, and what each is before it is filled.
-const SLICE: usize = 8192;
+// The most numbers of an answer slice. It is more than the bytes of a frame hold.
+pub(crate) const MOST_NUMBERS: usize = 65536;
 
+// What each number of an answer slice is before it is filled.
 const UNFILLED: u64 = 7777777777777777777;
+
+fn unfill(slice: &mut [u64]) {
+    let mut i = 0;
+    while i < slice.len() {
+        slice[i] = UNFILLED;
+        i += 1;
+    }
+}
 
 fn spaced(v: u64, out: &mut [u8], filled: Count) -> Count {
     let parted = word(b" ", out, filled);
@@ -26,14 +35,14 @@ fn each(numbers: &[u64], out: &mut [u8], filled: Count) -> Count {
 }
 
 // The line for strict reading into a slice of so many numbers.
-pub(crate) fn read_strict(asked: u64, block: &[u8], out: &mut [u8]) -> Count {
+pub(crate) fn read_strict(asked: u64, block: &[u8], slots: &mut [u64], out: &mut [u8]) -> Count {
     let count = asked as usize;
-    if SLICE < count {
+    if slots.len() < count {
         return said::unknown().lay(out, Count(0));
     }
-    let mut slice = [UNFILLED; SLICE];
-    let part = &mut slice[0..count];
-    let answer = lists::read_strict(block, part);
+    let slice = &mut slots[0..count];
+    unfill(slice);
+    let answer = lists::read_strict(block, slice);
     let answered = said::read_list(answer).lay(out, Count(0));
-    each(part, out, answered)
+    each(slice, out, answered)
 }

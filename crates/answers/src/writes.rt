@@ -1,7 +1,6 @@
 // The ops that write into the bytes of a frame. Behind what the writer answered stand the bytes that it was lent, in
 // hexadecimal.
 use crate::frames::Frame;
-use crate::frames::MOST_BYTES;
 use crate::frames::eight;
 use crate::hex;
 use crate::numbers;
@@ -19,9 +18,6 @@ enum Wrote {
     Unknown,
 }
 
-// The most numbers that the bytes of a frame hold.
-const LIST: usize = MOST_BYTES / 8;
-
 // Takes the numbers that stand in front of the bytes, eight bytes for each.
 fn take_numbers(bytes: &[u8], numbers: &mut [u64])
     requires { ⌜ length (now numbers) * 8 ≤ length (now bytes) ⌝ }
@@ -36,19 +32,18 @@ fn take_numbers(bytes: &[u8], numbers: &mut [u64])
 
 // List writing of so many numbers, which stand in front of the bytes, into the bytes behind them. The op is unknown if the
 // bytes do not hold so many.
-fn write_list(asked: u64, bytes: &mut [u8], place: Place) -> Wrote {
+fn write_list(asked: u64, bytes: &mut [u8], slots: &mut [u64], place: Place) -> Wrote {
     let count = asked as usize;
-    if LIST < count {
+    if slots.len() < count {
+        return Wrote::Unknown;
+    }
+    if bytes.len() / 8 < count {
         return Wrote::Unknown;
     }
     let behind = count * 8;
-    if bytes.len() < behind {
-        return Wrote::Unknown;
-    }
-    let mut numbers = [0u64; LIST];
-    let part = &mut numbers[0..count];
-    take_numbers(bytes, part);
-    let answer = lists::write_list(part, &mut bytes[behind..], place);
+    let list = &mut slots[0..count];
+    take_numbers(bytes, list);
+    let answer = lists::write_list(list, &mut bytes[behind..], place);
     Wrote::Answer(answer, Place(behind))
 }
 
@@ -59,7 +54,7 @@ fn write_u32(a: u64, bytes: &mut [u8], place: Place) -> Wrote {
     }
 }
 
-fn write(frame: Frame, bytes: &mut [u8]) -> Wrote {
+fn write(frame: Frame, bytes: &mut [u8], slots: &mut [u64]) -> Wrote {
     let op = frame.op;
     let a = frame.a;
     let b = frame.b;
@@ -70,7 +65,7 @@ fn write(frame: Frame, bytes: &mut [u8]) -> Wrote {
         6 => Wrote::Answer(uleb128_rec::write_u64_rec(a, bytes, place), front),
         7 => write_u32(a, bytes, place),
         8 => Wrote::Answer(sleb128::write_i64(numbers::signed(a), bytes, place), front),
-        16 => write_list(b, bytes, Place(a as usize)),
+        16 => write_list(b, bytes, slots, Place(a as usize)),
         _ => Wrote::Unknown,
     }
 }
@@ -86,7 +81,7 @@ fn lay(wrote: Wrote, bytes: &[u8], out: &mut [u8]) -> Count {
 }
 
 // The line for such an op.
-pub(crate) fn answer(frame: Frame, bytes: &mut [u8], out: &mut [u8]) -> Count {
-    let wrote = write(frame, bytes);
+pub(crate) fn answer(frame: Frame, bytes: &mut [u8], slots: &mut [u64], out: &mut [u8]) -> Count {
+    let wrote = write(frame, bytes, slots);
     lay(wrote, bytes, out)
 }

@@ -23,7 +23,7 @@ use Rattle.blocks.specs.declared.Rule.{Rule}
 use Rattle.blocks.specs.declared.Rule.the-variants.{Unsigned, Signed}
 
 abbrev pub blockLimit : ℕ
-blockLimit = 4096
+blockLimit = 65536
 
 unfoldable pub isStart : List ℕ → ℕ → Bool
 isStart s p = either (eqb p 0) (ltb (getD s (p - 1) 0) 128)

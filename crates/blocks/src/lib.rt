@@ -17,7 +17,7 @@ ghost use Rattle.blocks.specs.Inner.{meansReading, ReadsBy};
 ghost use Rattle.blocks.specs.Promise.{meansStep, Steps, SetsDown};
 
 // The most bytes of a block.
-pub const BLOCK_LIMIT: usize = 4096;
+pub const BLOCK_LIMIT: usize = 65536;
 
 // The rule by which a group's bytes are read.
 pub enum Rule {

@@ -7,7 +7,7 @@ use mathlib.Core.List.{List, [], _∷_, _++_}
 use Rattle.uleb128.specs.Unsigned.{form}
 
 abbrev pub listLimit : ℕ
-listLimit = 4096
+listLimit = 16384
 
 unfoldable pub forms : List ℕ → List ℕ
 forms [] = []
