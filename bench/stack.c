@@ -1,0 +1,78 @@
+// stack: prints how many bytes of the stack each function takes on the largest block or list.
+//
+// It paints the stack below a call, calls, and counts down to the lowest byte that has changed: what the call itself takes there is in it.
+typedef unsigned char byte;
+typedef unsigned long size;
+
+extern int printf(const char *, ...);
+extern size stack_step_unsigned(const byte *, size, size);
+extern size stack_step_signed(const byte *, size, size);
+extern size stack_set_down(const byte *, size, size);
+extern size stack_read_strict(const byte *, size, size *, size);
+extern size stack_write_list(const size *, size, byte *, size);
+extern size stack_lay_listing(const byte *, size, byte *);
+
+enum { BLOCK = 65536, LIST = 16384, FORMS = 10 * LIST, TEXT = 17 + 28 * BLOCK, REFUSALS = 100, PAINTED = 65536, PAINT = 0xa5 };
+
+static byte block[BLOCK], buffer[FORMS], text[TEXT];
+static size slice[BLOCK], list[LIST];
+
+// What a block is made of, again and again: numbers of one byte, a tail, numbers of ten bytes, gaps of two and gaps of ten.
+static const byte sorts[][10] = {
+    {5, 5, 5, 5, 5, 5, 5, 5, 5, 5},
+    {128, 128, 128, 128, 128, 128, 128, 128, 128, 128},
+    {255, 255, 255, 255, 255, 255, 255, 255, 255, 1},
+    {128, 0, 128, 0, 128, 0, 128, 0, 128, 0},
+    {128, 128, 128, 128, 128, 128, 128, 128, 128, 2},
+};
+enum { SORTS = sizeof sorts / sizeof *sorts };
+
+static size step_unsigned(void) { return stack_step_unsigned(block, BLOCK, 0); }
+static size step_signed(void) { return stack_step_signed(block, BLOCK, 0); }
+static size set_down(void) { return stack_set_down(block, BLOCK, 1); }
+static size read_strict(void) { return stack_read_strict(block, BLOCK, slice, BLOCK); }
+static size write_list(void) { return stack_write_list(list, LIST, buffer, FORMS); }
+static size write_list_short(void) { return stack_write_list(list, LIST, buffer, FORMS - 1); }
+static size lay_listing(void) { return stack_lay_listing(block, BLOCK, text); }
+
+static const struct {
+    const char *name;
+    size (*call)(void);
+} calls[] = {
+    {"step, unsigned", step_unsigned},
+    {"step, signed", step_signed},
+    {"set_down", set_down},
+    {"read_strict", read_strict},
+    {"write_list", write_list},
+    {"write_list, a byte short", write_list_short},
+    {"lay_listing", lay_listing},
+};
+
+static size answer;
+
+// Called once before, so that nothing has to be looked up on the way any more.
+__attribute__((noinline)) static size taken(size (*call)(void)) {
+    call();
+    volatile byte *top;
+    __asm__ volatile("mov %%rsp, %0" : "=r"(top));
+    for (size i = 1; i <= PAINTED; i++) top[-i] = PAINT;
+    answer = call();
+    size deep = PAINTED;
+    while (deep > 0 && top[-deep] == PAINT) deep--;
+    return deep;
+}
+
+int main(void) {
+    for (size c = 0; c < sizeof calls / sizeof *calls; c++) {
+        size most = 0, accepted = 0;
+        for (size sort = 0; sort < SORTS; sort++) {
+            for (size i = 0; i < BLOCK; i++) block[i] = sorts[sort][i % 10];
+            for (size i = 0; i < LIST; i++) list[i] = -sort; // of one byte, then of ten
+            size deep = taken(calls[c].call);
+            if (deep > most) most = deep;
+            if (answer >= REFUSALS) accepted++;
+        }
+        printf("%s: %lu bytes; %lu inputs accepted, %lu refused\n", calls[c].name, most, accepted, SORTS - accepted);
+    }
+    return 0;
+}
