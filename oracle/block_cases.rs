@@ -389,7 +389,6 @@ fn limits(input: &mut Vec<u8>) {
     let end = most as u64;
     for (op, a, block) in [
         (STEP_UNSIGNED, middle, mixed(less)),
-        (STEP_SIGNED, middle, mixed(most)),
         (STRICT, 2, vec![5; less]),
         (STEP_UNSIGNED, 0, tail(most)),
         (SET_DOWN, 1, tail(less)),

@@ -465,9 +465,9 @@ fn put_limits(input: &mut Vec<u8>) -> Vec<String> {
     lines.push("refused 7 a5a5a5a5a5a5".to_string());
     put_list(input, 1, &[5; 37500], &[]);
     lines.push("refused 7 -".to_string());
-    // 65,540 bytes: a list may have more than a block, and 5 is all that is wrong.
-    put_list(input, 2, &[LARGEST; 6554], &[0xa5; 6]);
-    lines.push("refused 5 a5a5a5a5a5a5".to_string());
+    // A list may have more bytes than a block.
+    put_list(input, 1, &[LARGEST; 16384], &[0xa5; 163841]);
+    lines.push("count 163840 a5".to_string() + &"ffffffffffffffffff01".repeat(16384));
     lines
 }
 
@@ -508,9 +508,7 @@ pub fn put_long(input: &mut Vec<u8>) -> Vec<String> {
     put(input, 15, 16384, 0, &block);
     lines.push("count 16384".to_string() + &" 2097152".repeat(16384));
 
-    // With more bytes than a block may have, and one number more.
-    put_list(input, 1, &[LARGEST; 16384], &[0xa5; 163841]);
-    lines.push("count 163840 a5".to_string() + &"ffffffffffffffffff01".repeat(16384));
+    // One number more, in the longest form.
     put_list(input, 1, &[LARGEST; 16385], &[0xa5; 163851]);
     lines.push("refused 7 ".to_string() + &"a5".repeat(163851));
     lines
