@@ -1,12 +1,11 @@
 -- The text of a listing.
 --
---   front-enough    the first bytes of an input, one more than the limit, have its text
+--   front-enough    the first bytes of an input, more than the limit, have its text
 --   text-document   the text of document 01's 17 bytes, of the mended ones, and of no bytes
-use Prim.Native.Nat.{_+_}
 use mathlib.Core.Path.{_≡_, refl, ap, sym, _∙_}
 use native.Mathlib.Omega.{arith}
-use lib.ListN.{length, take}
-use lib.Seq.{take-all, length-take-le}
+use lib.ListN.{length, take, length-take}
+use lib.Seq.{take-all}
 use Rattle.words.proofs.Cases.{by-order}
 use Rattle.texts.specs.Texts.{decimal, decimalWithin}
 use Rattle.groups.specs.Group.{run, digits}
@@ -18,12 +17,9 @@ use Rattle.listing.proofs.TextFits.{text-above}
 use Rattle.claims.specs.OfListing.{FrontEnough, Document}
 
 pub front-enough : FrontEnough
-front-enough s =
-    by-order blockLimit (length s)
-    (λ long.
-    let n : length (take (blockLimit + 1) s) ≡ blockLimit + 1 = length-take-le (blockLimit + 1) s (omega arith) in
-    text-above (take (blockLimit + 1) s) (omega (arith, n)) ∙ sym (text-above s long))
-    (λ short. ap text (take-all (blockLimit + 1) s (omega arith)))
+front-enough s n above =
+    by-order blockLimit (length s) (λ long. text-above (take n s) (omega (arith, length-take n s)) ∙ sym (text-above s long))
+    (λ short. ap text (take-all n s (omega arith)))
 
 pub text-document : Document
 unfolding text row rows decimal decimalWithin cut reading runsOut tooLarge tooMany run digits

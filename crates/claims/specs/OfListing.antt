@@ -4,7 +4,7 @@
 --   rowsFrom s p, Rows       the rows of the block s from the place p on: that of the group or of the tail that stands there, and those behind it
 --   Fits                     every listing fits into a buffer of `textRoom` bytes
 --   AboveLimit               an input above the limit has the text `refused 7`, one line without header
---   FrontEnough              the first bytes of an input, one more than the limit, have its text
+--   FrontEnough              the first bytes of an input, more than the limit, have its text
 --   Document                 the text of document 01's 17 bytes, of the mended ones, and of no bytes
 --   Taking n ks i            where n bytes of the input are there, reads that answer ks, one after another, lead to the input i
 --   answers ps k, total ps   the answers of reads that give pieces, each of a byte and p more, and then k; how many bytes the pieces have
@@ -45,7 +45,7 @@ abbrev pub AboveLimit : Type 0
 AboveLimit = (s : List ℕ) → blockLimit < length s → text s ≡ ascii "refused 7\n"
 
 abbrev pub FrontEnough : Type 0
-FrontEnough = (s : List ℕ) → text (take (blockLimit + 1) s) ≡ text s
+FrontEnough = (s : List ℕ) (n : ℕ) → blockLimit < n → text (take n s) ≡ text s
 
 pub record Document : Type 0 where
   pub document : text (0x00 ∷ 0x80 ∷ 0x01 ∷ 0x80 ∷ 0x00 ∷ replicate 9 0xff ++ 0x02 ∷ 0x05 ∷ 0x83 ∷ [])
