@@ -3,10 +3,10 @@
 //!   answer         the line for a frame, op by op
 //!   turn_meaning   what a turn means under a thread code
 
-use crate::blocks::{set_down, step, strict, write_list, Step};
+use crate::blocks::{set_down, step, strict, write_list, Step, StrictRefusal};
 use crate::frames::{hex, Frame, Item};
 use crate::listing::listing;
-use crate::numbers::{length, power, read, write, Refusal, Rule, THREAD};
+use crate::numbers::{length, power, read, write, Refusal, RefusalAt, Rule, THREAD};
 use std::cmp::Ordering;
 use Rule::*;
 
@@ -42,8 +42,12 @@ const UNKNOWN: &str = "unknown";
 fn read_line(rule: Rule, frame: &Frame) -> String {
     match read(rule, frame.bytes, frame.a) {
         Ok((v, count)) => format!("number {v} {count}"),
-        Err(refusal) => format!("refused {refusal}"),
+        Err(refused) => refused_at(refused),
     }
+}
+
+fn refused_at(RefusalAt { refusal, place }: RefusalAt) -> String {
+    format!("refused {refusal} {place}")
 }
 
 fn write_line(rule: Rule, frame: &Frame) -> String {
@@ -72,7 +76,9 @@ fn length_line(rule: Rule, frame: &Frame) -> String {
 fn step_line(rule: Rule, frame: &Frame) -> String {
     match step(rule, frame.bytes, frame.a) {
         Ok((Step::Number(v, count), next)) => format!("number {v} {count} {next}"),
-        Ok((Step::Gap(reason, count), next)) => format!("gap {reason} {count} {next}"),
+        Ok((Step::Gap(RefusalAt { refusal, place }, count), next)) => {
+            format!("gap {refusal} {count} {next} {place}")
+        }
         Ok((Step::Tail(count), next)) => format!("tail {count} {next}"),
         Ok((Step::Finished, next)) => format!("finished {next}"),
         Err(refusal) => format!("refused {refusal}"),
@@ -95,7 +101,11 @@ fn strict_line(frame: &Frame) -> String {
         return UNKNOWN.to_string();
     }
     let mut slice = vec![BEFORE; frame.a as usize];
-    let mut line = count_or_refused(strict(frame.bytes, &mut slice));
+    let mut line = match strict(frame.bytes, &mut slice) {
+        Ok(count) => format!("count {count}"),
+        Err(StrictRefusal::Fault(fault)) => refused_at(fault),
+        Err(StrictRefusal::Other(refusal)) => format!("refused {refusal}"),
+    };
     for number in slice {
         line += &format!(" {number}");
     }

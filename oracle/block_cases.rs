@@ -50,6 +50,10 @@ pub fn whole(input: &mut Vec<u8>) {
     limits(input);
     random_cases(input, 4, 2_000, 40);
     random_listings(input, 8, 200, 40);
+    moved_gaps(input);
+    fault_at_each_start(input);
+    faults_at(input, &[9, 10, 100, 256]);
+    random_faults(input, 14, 250, 20);
 }
 
 pub fn more(input: &mut Vec<u8>) {
@@ -67,6 +71,8 @@ pub fn more(input: &mut Vec<u8>) {
     random_cases(input, 6, 100_000, 300);
     long_listings(input);
     random_listings(input, 9, 20_000, 300);
+    faults_at(input, &[999, 1_000, 9_999, 10_000]);
+    random_faults(input, 15, 100_000, 60);
 }
 
 fn at_places(input: &mut Vec<u8>, block: &[u8], places: impl IntoIterator<Item = u64>) {
@@ -186,7 +192,85 @@ fn lost_fronts(input: &mut Vec<u8>) {
     }
 }
 
+/// Gaps by the unsigned rule: the last byte decides, or the one at the greatest length, which is
+/// the group's last or not.
+fn kinds_of_gap() -> [Vec<u8>; 5] {
+    [
+        vec![0x80, 0x00],
+        [&[0x80; 9][..], &[0x00]].concat(),
+        [&[0xff; 9][..], &[0x02]].concat(),
+        [&[0xff; 10][..], &[0x00]].concat(),
+        [&[0x80; 12][..], &[0x01]].concat(),
+    ]
+}
+
+/// A gap before a stretch and one behind it, and the stretch replaced: by nothing, by less, by more
+/// than it and than the gap, by bytes that are a gap, and by some that run on into the group behind.
+/// Stepped from both gaps and from the stretch.
+fn moved_gaps(input: &mut Vec<u8>) {
+    let longer = [&[0x80; 12][..], &[0x00]].concat();
+    let stretches = [
+        &[0x81, 0x02][..],
+        &[],
+        &[0x07],
+        &[0xff, 0xff, 0x01],
+        &longer,
+        &[0x80],
+    ];
+    let signed = [vec![0xff, 0x7f], [&[0x80; 9][..], &[0x01]].concat()];
+    for gap in kinds_of_gap().into_iter().chain(signed) {
+        for stretch in stretches {
+            let front = [&[0x05], &gap[..]].concat();
+            let moved = [&front, stretch, &[0x06]].concat();
+            let block = [&moved[..], &gap, &[0x80, 0x01]].concat();
+            for place in [1, front.len(), moved.len()] {
+                for op in STEPS {
+                    put(input, op, place as u64, 0, &block);
+                }
+            }
+        }
+    }
+}
+
 // ---- strict reading
+
+/// One gap at each start of a block of numbers, with a tail at the end and without one; then a tail
+/// alone there.
+fn fault_at_each_start(input: &mut Vec<u8>) {
+    let old: Vec<u8> = [5, 300, power(63), 70_000]
+        .iter()
+        .flat_map(|v| form(U64, *v))
+        .collect();
+    for start in starts(&old) {
+        let (front, behind) = old.split_at(start);
+        for gap in kinds_of_gap() {
+            for count in [0, 1, 12] {
+                let block = [front, &gap, behind, &vec![0xff; count]].concat();
+                into_slices(input, &block, [0, 6]);
+            }
+        }
+        for count in [1, 2, 8, 9, 10, 11, 20] {
+            into_slices(input, &[front, &tail(count)].concat(), [1]);
+        }
+    }
+}
+
+/// Gaps with the byte that decides at each place, strictly and by both rules; and tails with the
+/// block's end there.
+fn faults_at(input: &mut Vec<u8>, places: &[usize]) {
+    let [shorter, _, over, longer, _] = kinds_of_gap();
+    for place in places {
+        for (before, gap) in [(1, &shorter), (9, &over), (9, &longer)] {
+            let start = place - before;
+            let block = [&vec![5; start], &gap[..], &[0x06]].concat();
+            for op in STEPS {
+                put(input, op, start as u64, 0, &block);
+            }
+            into_slices(input, &block, [0]);
+        }
+        into_slices(input, &[vec![5; place - 1], tail(1)].concat(), [0]);
+    }
+}
 
 /// Faults of every kind in both orders, with room for the numbers between them and without. Bytes
 /// that would be a tail at the end run on into the number behind them elsewhere.
@@ -593,6 +677,22 @@ impl Random {
         };
         put(input, TURN, turn, code, &[]);
     }
+
+    /// Forms with one part of any kind among them: strict reading, or a step there.
+    fn fault_case(&mut self, input: &mut Vec<u8>, longest: usize) {
+        let most = self.below(longest + 1);
+        let front = self.list_block(most);
+        let part = self.part();
+        let most = self.below(longest + 1);
+        let behind = self.list_block(most);
+        let block = [front.clone(), part, behind].concat();
+        let op = [STEP_UNSIGNED, STEP_SIGNED, STRICT, STRICT][self.below(4)];
+        let a = match op {
+            STRICT => self.below(3),
+            _ => front.len(),
+        };
+        put(input, op, a as u64, 0, &block);
+    }
 }
 
 /// Random cases from a seed, spread over ops 12 to 17, with blocks of no more than so many bytes.
@@ -619,5 +719,13 @@ fn random_listings(input: &mut Vec<u8>, seed: u64, count: usize, longest: usize)
             _ => random.mostly_forms(longest),
         };
         listed(input, &block);
+    }
+}
+
+/// Random cases from a seed for gaps and faults, with no more than so many bytes before and behind.
+fn random_faults(input: &mut Vec<u8>, seed: u64, count: usize, longest: usize) {
+    let mut random = Random(seed);
+    for _ in 0..count {
+        random.fault_case(input, longest);
     }
 }

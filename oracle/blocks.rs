@@ -5,15 +5,18 @@
 //!   starts        the starts of a block, in order
 //!   Step          what a step says
 //!   meaning       what is said of a group or a tail by a rule
+//!   StrictRefusal   a refusal of strict reading, with a place or without
 //!   step, set_down, strict, write_list   the block desk
 //!
 //! A block is taken apart whole, and the part that begins at the place is looked up: it is held
 //! against a program that walks the bytes from the place. `step` stops the run if the parts and the
-//! starts disagree, and `write_list` if strict reading does not give the list back.
+//! starts disagree, `meaning` if a group alone is read otherwise than in its block, `strict` if its
+//! fault is not the first or has another place than a reader gives it, and `write_list` if strict
+//! reading does not give the list back.
 
 use crate::numbers::{
-    form, read, store, Refusal, Rule, END, NOT_A_START, NOT_SHORTEST, NO_ROOM, NO_START, OVERFLOW,
-    PLACE, TOO_LONG,
+    at, form, read, store, Refusal, RefusalAt, Rule, END, NOT_A_START, NOT_SHORTEST, NO_ROOM,
+    NO_START, OVERFLOW, PLACE, TOO_LONG,
 };
 
 /// Document 02, #105: "Refusal 7 starts above 65,536 bytes for blocks and above 16,384 numbers for
@@ -47,28 +50,35 @@ pub fn starts(block: &[u8]) -> Vec<usize> {
         .collect()
 }
 
-/// Each with its length: of the tail, or of the whole group, also where that is more than ten.
+/// Each with its length: of the tail, or of the whole group, also where that is more than ten. A
+/// gap's reason has its place in the block.
 pub enum Step {
     Number(i128, usize),
-    Gap(Refusal, usize),
+    Gap(RefusalAt, usize),
     Tail(usize),
     Finished,
 }
 
 /// Without a byte below 128 it is a tail, whatever its length. Else "the group's bytes are read by
-/// the rule", and a gap's reason is what that refuses with.
-pub fn meaning(rule: Rule, bytes: &[u8]) -> Step {
-    let count = bytes.len();
-    if bytes.iter().all(|byte| *byte >= 128) {
+/// the rule", and a gap's reason is what that refuses with. Its place "moves with the group".
+pub fn meaning(rule: Rule, block: &[u8], part: &Part) -> Step {
+    let count = part.bytes.len();
+    if part.bytes.iter().all(|byte| *byte >= 128) {
         return Step::Tail(count);
     }
-    match read(rule, bytes, 0) {
+    let start = part.place as u64;
+    let said = read(rule, block, start);
+    // The group alone says the same, with the place in the group.
+    let in_group = |reason: RefusalAt| at(reason.refusal, reason.place - start);
+    assert!(read(rule, part.bytes, 0) == said.map_err(in_group));
+    match said {
         Ok((v, taken)) => {
             assert!(taken == count);
             Step::Number(v, count)
         }
         Err(reason) => {
-            assert!(reason == OVERFLOW || reason == NOT_SHORTEST);
+            assert!(reason.refusal == OVERFLOW || reason.refusal == NOT_SHORTEST);
+            assert!(in_group(reason).place < count as u64);
             Step::Gap(reason, count)
         }
     }
@@ -99,7 +109,7 @@ pub fn step(rule: Rule, block: &[u8], place: u64) -> Result<(Step, usize), Refus
     let Some(part) = found else {
         return Err(NOT_A_START);
     };
-    let said = meaning(rule, part.bytes);
+    let said = meaning(rule, block, part);
     let next = match said {
         Step::Number(..) | Step::Gap(..) => place + part.bytes.len(),
         Step::Tail(_) | Step::Finished => place,
@@ -114,26 +124,64 @@ pub fn set_down(block: &[u8], place: u64) -> Result<usize, Refusal> {
     starts(block).into_iter().find(at_or_after).ok_or(NO_START)
 }
 
+/// Strict reading's refusals are of two sorts: the faults, 1, 2 and 3, to which document 02, #108
+/// gives a place, and 7 and 5, which "stay".
+#[derive(PartialEq)]
+pub enum StrictRefusal {
+    Fault(RefusalAt),
+    Other(Refusal),
+}
+
 /// "Tests 7, then the first fault by place (2 or 3 in a group, 1 for a tail, even of ten bytes or
 /// more), then 5. It fills the front of the answer slice, leaves the rest, and gives the count."
-pub fn strict(block: &[u8], slice: &mut [u64]) -> Result<usize, Refusal> {
+pub fn strict(block: &[u8], slice: &mut [u64]) -> Result<usize, StrictRefusal> {
     if block.len() > MOST_OF_BLOCK {
-        return Err(TOO_LONG);
+        return Err(StrictRefusal::Other(TOO_LONG));
     }
-    let mut numbers = Vec::new();
-    for part in parts(block) {
-        match meaning(Rule::U64, part.bytes) {
-            Step::Number(v, _) => numbers.push(v as u64),
-            Step::Gap(reason, _) => return Err(reason),
-            Step::Tail(_) => return Err(END),
-            Step::Finished => unreachable!(),
-        }
+    let said = numbers_or_fault(block);
+    if let Err(fault) = said {
+        check_first(block, fault);
     }
+    let numbers = said.map_err(StrictRefusal::Fault)?;
     if numbers.len() > slice.len() {
-        return Err(NO_ROOM);
+        return Err(StrictRefusal::Other(NO_ROOM));
     }
     slice[..numbers.len()].copy_from_slice(&numbers);
     Ok(numbers.len())
+}
+
+/// All numbers of a block, or its first fault. "Strict reading passes it on for 2 and 3; for a tail
+/// it gives the block's end."
+fn numbers_or_fault(block: &[u8]) -> Result<Vec<u64>, RefusalAt> {
+    let mut numbers = Vec::new();
+    for part in parts(block) {
+        match meaning(Rule::U64, block, &part) {
+            Step::Number(v, _) => numbers.push(v as u64),
+            Step::Gap(reason, _) => return Err(reason),
+            Step::Tail(_) => return Err(at(END, block.len() as u64)),
+            Step::Finished => unreachable!(),
+        }
+    }
+    Ok(numbers)
+}
+
+/// Stops the run if it is not "the first fault by place", or if another byte decided it.
+fn check_first(block: &[u8], fault: RefusalAt) {
+    let place = fault.place as usize;
+    let before = starts(block).into_iter().filter(|start| *start < place);
+    let start = before.last().unwrap();
+    // Up to the last start before that byte all are numbers, and a tail runs from there to the byte.
+    assert!(numbers_or_fault(&block[..start]).is_ok());
+    assert!(numbers_or_fault(&block[..place]) == Err(at(END, fault.place)));
+    let is_group = block[start..].iter().any(|byte| *byte < 128);
+    let passed_on = read(Rule::U64, block, start as u64) == Err(fault);
+    if fault.refusal == END {
+        // A reader says the same of a tail with fewer bytes than the most.
+        assert!(!is_group && place == block.len());
+        assert!(passed_on == (place - start < Rule::U64.most()));
+    } else {
+        assert!(is_group && passed_on);
+    }
 }
 
 /// "Tests 7, then 5", and "puts the forms one after another". Gives the count of bytes.

@@ -3,7 +3,7 @@
 //!
 //!   committed   the cases that the repository holds
 //!   large       these, the long ones that are written down by hand, all pairs of bytes, more turns,
-//!               long frames and blocks, and 1,220,000 random cases more
+//!               long frames and blocks, and 1,470,000 random cases more
 //!
 //! Nothing here says what an answer should be. The same bytes come out on every machine.
 
@@ -50,6 +50,8 @@ pub fn large() -> Vec<u8> {
         long_writes(&mut input, &WRITERS, count);
     }
     random_cases(&mut input, 2, 1_000_000);
+    refusals_at(&mut input, &[999, 1_000, 9_999, 10_000]);
+    random_refusals(&mut input, 13, 150_000);
     block_cases::more(&mut input);
     put(&mut input, 1, 0, 0, &vec![1; MOST_BYTES as usize + 1]);
     put(&mut input, 1, 0, 0, &[1]);
@@ -70,6 +72,8 @@ fn whole(input: &mut Vec<u8>) {
     long_reads(input, MOST_OF_BLOCK + 2);
     long_writes(input, &WRITERS[..1], MOST_OF_BLOCK + 2);
     random_cases(input, 1, 5_000);
+    refusals(input);
+    random_refusals(input, 12, 400);
     block_cases::whole(input);
 }
 
@@ -140,6 +144,97 @@ fn starts(input: &mut Vec<u8>) {
         }
         for place in [0, 1, 2, FAR] {
             put(input, op, place, 0, &[]);
+        }
+    }
+}
+
+// ---- the byte that decides a refusal
+
+/// Refusals of each kind at several starts, some in the middle of a group, with other bytes before
+/// and behind that must not count. Then larger places; and starts past the end on both sides of each
+/// power of ten, where their text grows by a digit.
+fn refusals(input: &mut Vec<u8>) {
+    for (op, rule) in READERS {
+        for (front, behind) in [
+            (&[][..], &[0x05][..]),
+            (&[0x05], &[]),
+            (&[0x05, 0x80], &[0x80, 0x00]),
+            (&[0x00, 0x81, 0xff, 0xff, 0xff], &[0xff, 0x81, 0x80]),
+        ] {
+            let start = front.len() as u64;
+            for number in high_bytes(rule) {
+                put(input, op, start, 0, &[front, &number].concat());
+            }
+            for number in [too_large(rule), one_too_many(rule)].concat() {
+                put(input, op, start, 0, &[front, &number, behind].concat());
+            }
+        }
+    }
+    refusals_at(input, &[9, 10, 100, 256]);
+    for (op, _) in READERS {
+        for zeros in 1..=19 {
+            let ten = 10u64.pow(zeros);
+            put(input, op, ten - 1, 0, &[0x80, 0x00]);
+            put(input, op, ten, 0, &[0x80, 0x00]);
+        }
+    }
+}
+
+/// High bytes alone, fewer than the most.
+fn high_bytes(rule: Rule) -> Vec<Vec<u8>> {
+    let counts = [0, 1, 2, rule.most() - 2, rule.most() - 1];
+    counts.iter().map(|count| vec![0x80; *count]).collect()
+}
+
+/// High bytes up to the greatest length, where a byte stands that the width may not allow: the
+/// number ends there, some bytes later, or not at all.
+fn too_large(rule: Rule) -> Vec<Vec<u8>> {
+    let mut all = Vec::new();
+    for byte in [0x80, 0xff] {
+        let run = vec![byte; rule.most() - 1];
+        for behind in [
+            &[0x02][..],
+            &[0x10],
+            &[0x7e],
+            &[0x80],
+            &[0xff, 0x00],
+            &[0x81, 0x80, 0xff, 0x80, 0x80, 0x01],
+        ] {
+            all.push([&run, behind].concat());
+        }
+    }
+    all
+}
+
+/// Runs of 80 and of ff with a last byte that is one too many by one rule or another, up to the
+/// greatest length.
+fn one_too_many(rule: Rule) -> Vec<Vec<u8>> {
+    let mut all = Vec::new();
+    for count in [1, 2, rule.most() - 2, rule.most() - 1] {
+        for byte in [0x80, 0xff] {
+            for last in [0x00, 0x7f] {
+                all.push([vec![byte; count], vec![last]].concat());
+            }
+        }
+    }
+    all
+}
+
+/// Refusals with the byte that decides at each place: the end, the byte at the greatest length, the
+/// last byte.
+fn refusals_at(input: &mut Vec<u8>, places: &[usize]) {
+    for (op, rule) in READERS {
+        let over = vec![0xff; rule.most()];
+        for place in places {
+            for (before, number, behind) in [
+                (2, &[0x80, 0x80][..], &[][..]),
+                (rule.most() - 1, &over, &[0xff, 0x05]),
+                (1, &[0x80, 0x00], &[0xff, 0x05]),
+            ] {
+                let start = place - before;
+                let bytes = [&filler(start), number, behind].concat();
+                put(input, op, start as u64, 0, &bytes);
+            }
         }
     }
 }
@@ -325,6 +420,30 @@ impl Random {
         };
         put(input, op, v as u64, place, &buffer);
     }
+
+    /// Bytes that are mostly refused, behind some and before others: ones that end too early, too
+    /// large, longer than the most bytes, or with a byte added that may be one too many.
+    fn refusal_case(&mut self, input: &mut Vec<u8>, op: u8, rule: Rule) {
+        let count = self.below(16);
+        let mut bytes = self.bytes(count);
+        let start = count as u64;
+        let high = self.below(rule.most() + 8);
+        let kind = self.below(4);
+        match kind {
+            0 | 1 => bytes.extend((0..high).map(|_| self.byte() | 128)),
+            2 => bytes.extend(self.longest(rule)),
+            _ => {
+                let mut number = form(rule, self.number(rule));
+                self.lengthen(&mut number);
+                bytes.extend(number);
+            }
+        }
+        if kind > 0 {
+            let count = self.below(6);
+            bytes.extend(self.bytes(count));
+        }
+        put(input, op, start, 0, &bytes);
+    }
 }
 
 /// Random cases from a seed, spread over ops 1 to 11.
@@ -345,5 +464,14 @@ fn random_cases(input: &mut Vec<u8>, seed: u64, count: usize) {
                 put(input, op, random.number(rule) as u64, 0, &[]);
             }
         }
+    }
+}
+
+/// Random cases from a seed that are mostly refused, spread over ops 1 to 4.
+fn random_refusals(input: &mut Vec<u8>, seed: u64, count: usize) {
+    let mut random = Random(seed);
+    for _ in 0..count {
+        let (op, rule) = READERS[random.below(4)];
+        random.refusal_case(input, op, rule);
     }
 }

@@ -1,8 +1,9 @@
-//! Answers written down by hand from document 01, from document 02 (#101, #105) and from the examples
-//! of DWARF 5, so that no expected output rests on this program's word alone.
+//! Answers written down by hand from document 01, from document 02 (#101, #105, #108) and from the
+//! examples of DWARF 5, so that no expected output rests on this program's word alone.
 //!
 //!   READ, WRITE, LENGTH   the cases for numbers, each with its answer line
 //!   BLOCK, LIST, TURN     those for blocks, lists and turns
+//!   READ_PLACE, BLOCK_PLACE, LONG_PLACE   those for the byte that decided a refusal or a gap
 //!   put_limits            those with a block or list as long as it may be, or longer
 //!   put_known             all of these as frames
 //!   put_long              those of the large run alone
@@ -18,6 +19,8 @@ use std::fmt::Write as _;
 
 /// (ops, place, bytes in hex, answer); of strict reading the size of the slice, and no place
 type Read = (&'static [u8], u64, &'static str, &'static str);
+/// (ops, place, so many fives, bytes behind them in hex, answer); of strict reading as above
+type Long = (&'static [u8], u64, usize, &'static str, &'static str);
 /// (ops, number, place, buffer in hex, answer)
 type Write = (&'static [u8], i128, u64, &'static str, &'static str);
 /// (ops, number, answer)
@@ -42,21 +45,21 @@ const READ: &[Read] = &[
     (&[1, 2], 0, "7f", "number 127 1"),
     (&[1, 2], 0, "80 01", "number 128 2"),
     (&[1, 2], 0, "b9 64", "number 12857 2"),
-    (&[1, 2], 0, "80 00", "refused 3"),
+    (&[1, 2], 0, "80 00", "refused 3 1"),
     (&[1, 2], 0, "80 80 80 80 80 80 80 80 80 01", "number 9223372036854775808 10"),
     (&[1, 2], 0, "ff ff ff ff ff ff ff ff ff 01", "number 18446744073709551615 10"),
-    (&[1, 2], 0, "ff ff ff ff ff ff ff ff ff 02", "refused 2"),
-    (&[1, 2], 0, "80 80 80 80 80 80 80 80 80 00", "refused 3"),
-    (&[1, 2], 0, "80 80 80 80 80 80 80 80 80 80", "refused 2"),
-    (&[1, 2], 0, "80 80 80 80 80 80 80 80 80", "refused 1"),
+    (&[1, 2], 0, "ff ff ff ff ff ff ff ff ff 02", "refused 2 9"),
+    (&[1, 2], 0, "80 80 80 80 80 80 80 80 80 00", "refused 3 9"),
+    (&[1, 2], 0, "80 80 80 80 80 80 80 80 80 80", "refused 2 9"),
+    (&[1, 2], 0, "80 80 80 80 80 80 80 80 80", "refused 1 9"),
     (&[3], 0, "ff ff ff ff 0f", "number 4294967295 5"),
-    (&[3], 0, "ff ff ff ff 10", "refused 2"),
+    (&[3], 0, "ff ff ff ff 10", "refused 2 4"),
     (&[4], 0, "7e", "number -2 1"),
     (&[4], 0, "ff 00", "number 127 2"),
     (&[4], 0, "80 7f", "number -128 2"),
     (&[4], 0, "80 80 80 80 80 80 80 80 80 7f", "number -9223372036854775808 10"),
     (&[4], 0, "ff ff ff ff ff ff ff ff ff 00", "number 9223372036854775807 10"),
-    (&[4], 0, "ff 7f", "refused 3"),
+    (&[4], 0, "ff 7f", "refused 3 1"),
     // DWARF 5, unsigned
     (&[1, 2, 3], 0, "02", "number 2 1"),
     (&[1, 2, 3], 0, "7f", "number 127 1"),
@@ -74,27 +77,27 @@ const READ: &[Read] = &[
     (&[4], 0, "81 01", "number 129 2"),
     (&[4], 0, "ff 7e", "number -129 2"),
     // The rows of the table of refusals, at the widths that "Bytes to try" leaves out.
-    (&[1, 2, 3, 4], 0, "", "refused 1"),
-    (&[1, 2, 3, 4], 2, "01 02", "refused 1"),
-    (&[1, 2, 3, 4], 3, "01 02", "refused 4"),
-    (&[1, 2, 3, 4], 1, "", "refused 4"),
-    (&[1, 2, 3, 4], 18446744073709551615, "01 02", "refused 4"),
-    (&[3], 0, "80 80 80 80", "refused 1"),
-    (&[3], 0, "80 80 80 80 80", "refused 2"),
-    (&[3], 0, "80 80 80 80 00", "refused 3"),
+    (&[1, 2, 3, 4], 0, "", "refused 1 0"),
+    (&[1, 2, 3, 4], 2, "01 02", "refused 1 2"),
+    (&[1, 2, 3, 4], 3, "01 02", "refused 4 3"),
+    (&[1, 2, 3, 4], 1, "", "refused 4 1"),
+    (&[1, 2, 3, 4], 18446744073709551615, "01 02", "refused 4 18446744073709551615"),
+    (&[3], 0, "80 80 80 80", "refused 1 4"),
+    (&[3], 0, "80 80 80 80 80", "refused 2 4"),
+    (&[3], 0, "80 80 80 80 00", "refused 3 4"),
     (&[3], 0, "80 80 80 80 0f", "number 4026531840 5"),
-    (&[3], 0, "80 80 80 80 10", "refused 2"),
-    (&[4], 0, "80 80 80 80 80 80 80 80 80", "refused 1"),
-    (&[4], 0, "80 80 80 80 80 80 80 80 80 80", "refused 2"),
-    (&[4], 0, "80 80 80 80 80 80 80 80 80 01", "refused 2"),
-    (&[4], 0, "ff ff ff ff ff ff ff ff ff 7e", "refused 2"),
-    (&[4], 0, "80 80 80 80 80 80 80 80 80 00", "refused 3"),
-    (&[4], 0, "ff ff ff ff ff ff ff ff ff 7f", "refused 3"),
+    (&[3], 0, "80 80 80 80 10", "refused 2 4"),
+    (&[4], 0, "80 80 80 80 80 80 80 80 80", "refused 1 9"),
+    (&[4], 0, "80 80 80 80 80 80 80 80 80 80", "refused 2 9"),
+    (&[4], 0, "80 80 80 80 80 80 80 80 80 01", "refused 2 9"),
+    (&[4], 0, "ff ff ff ff ff ff ff ff ff 7e", "refused 2 9"),
+    (&[4], 0, "80 80 80 80 80 80 80 80 80 00", "refused 3 9"),
+    (&[4], 0, "ff ff ff ff ff ff ff ff ff 7f", "refused 3 9"),
     // "Treating a signed 40 (hex) as 64; it is -64."
     (&[4], 0, "40", "number -64 1"),
     (&[4], 0, "c0 00", "number 64 2"),
-    (&[4], 0, "c0 7f", "refused 3"),
-    (&[4], 0, "bf 00", "refused 3"),
+    (&[4], 0, "c0 7f", "refused 3 1"),
+    (&[4], 0, "bf 00", "refused 3 1"),
     (&[4], 0, "bf 7f", "number -65 2"),
     // "A number reader takes its start as given, in the middle of a group too."
     (&[1, 2, 3, 4], 1, "80 80 01", "number 128 2"),
@@ -175,8 +178,8 @@ const BLOCK: &[Read] = &[
     // The block of the listing, stepped through, and where no step may begin.
     (&[12, 13], 0, DOCUMENT, "number 0 1 1"),
     (&[12, 13], 1, DOCUMENT, "number 128 2 3"),
-    (&[12, 13], 3, DOCUMENT, "gap 3 2 5"),
-    (&[12, 13], 5, DOCUMENT, "gap 2 10 15"),
+    (&[12, 13], 3, DOCUMENT, "gap 3 2 5 4"),
+    (&[12, 13], 5, DOCUMENT, "gap 2 10 15 14"),
     (&[12, 13], 15, DOCUMENT, "number 5 1 16"),
     (&[12, 13], 16, DOCUMENT, "tail 1 16"),
     (&[12, 13], 17, DOCUMENT, "finished 17"),
@@ -188,7 +191,7 @@ const BLOCK: &[Read] = &[
     (&[12, 13], 0, MENDED, "number 0 1 1"),
     (&[12, 13], 1, MENDED, "number 128 2 3"),
     (&[12, 13], 3, MENDED, "number 7 1 4"),
-    (&[12, 13], 4, MENDED, "gap 2 10 14"),
+    (&[12, 13], 4, MENDED, "gap 2 10 14 13"),
     (&[12, 13], 14, MENDED, "number 5 1 15"),
     (&[12, 13], 15, MENDED, "tail 1 15"),
     (&[12, 13], 16, MENDED, "finished 16"),
@@ -202,9 +205,9 @@ const BLOCK: &[Read] = &[
     (&[14], 18, DOCUMENT, "refused 4"),
     (&[14], 18446744073709551615, DOCUMENT, "refused 4"),
     // Strict reading there: "the first fault by place".
-    (&[15], 0, DOCUMENT, "refused 3"),
-    (&[15], 2, DOCUMENT, "refused 3 7777777777777777777 7777777777777777777"),
-    (&[15], 1, MENDED, "refused 2 7777777777777777777"),
+    (&[15], 0, DOCUMENT, "refused 3 4"),
+    (&[15], 2, DOCUMENT, "refused 3 4 7777777777777777777 7777777777777777777"),
+    (&[15], 1, MENDED, "refused 2 13 7777777777777777777"),
     // An empty block.
     (&[12, 13], 0, "", "finished 0"),
     (&[12, 13, 14], 1, "", "refused 4"),
@@ -219,33 +222,33 @@ const BLOCK: &[Read] = &[
     (&[14], 1, TEN_80, "refused 8"),
     (&[14], 10, TEN_80, "refused 8"),
     (&[14], 11, TEN_80, "refused 4"),
-    (&[15], 0, TEN_80, "refused 1"),
-    (&[15], 1, TEN_80, "refused 1 7777777777777777777"),
+    (&[15], 0, TEN_80, "refused 1 10"),
+    (&[15], 1, TEN_80, "refused 1 10 7777777777777777777"),
     (&[12, 13], 1, "05 ff ff ff ff ff ff ff ff ff ff ff", "tail 11 1"),
     (&[14], 1, "05 ff ff ff ff ff ff ff ff ff ff ff", "start 1"),
     (&[14], 2, "05 ff ff ff ff ff ff ff ff ff ff ff", "refused 8"),
-    (&[15], 1, "05 ff ff ff ff ff ff ff ff ff ff ff", "refused 1 7777777777777777777"),
+    (&[15], 1, "05 ff ff ff ff ff ff ff ff ff ff ff", "refused 1 12 7777777777777777777"),
     // "Skipping ten bytes after an overflow, and not through the group's end."
-    (&[12, 13], 0, "80 80 80 80 80 80 80 80 80 80 01 06", "gap 2 11 11"),
-    (&[12, 13], 0, "ff ff ff ff ff ff ff ff ff ff ff ff 7f 06", "gap 2 13 13"),
+    (&[12, 13], 0, "80 80 80 80 80 80 80 80 80 80 01 06", "gap 2 11 11 9"),
+    (&[12, 13], 0, "ff ff ff ff ff ff ff ff ff ff ff ff 7f 06", "gap 2 13 13 9"),
     (&[12, 13], 10, "80 80 80 80 80 80 80 80 80 80 01 06", "refused 6"),
     (&[12, 13], 11, "80 80 80 80 80 80 80 80 80 80 01 06", "number 6 1 12"),
     (&[14], 1, "80 80 80 80 80 80 80 80 80 80 01 06", "start 11"),
-    (&[15], 1, "80 80 80 80 80 80 80 80 80 80 01 06", "refused 2 7777777777777777777"),
+    (&[15], 1, "80 80 80 80 80 80 80 80 80 80 01 06", "refused 2 9 7777777777777777777"),
     // "By the rule the caller names for that step."
     (&[12], 0, "40", "number 64 1 1"),
     (&[13], 0, "40", "number -64 1 1"),
-    (&[12], 0, "ff 00", "gap 3 2 2"),
+    (&[12], 0, "ff 00", "gap 3 2 2 1"),
     (&[13], 0, "ff 00", "number 127 2 2"),
     (&[12], 0, "ff 7f", "number 16383 2 2"),
-    (&[13], 0, "ff 7f", "gap 3 2 2"),
+    (&[13], 0, "ff 7f", "gap 3 2 2 1"),
     (&[12], 0, "80 80 80 80 80 80 80 80 80 01", "number 9223372036854775808 10 10"),
-    (&[13], 0, "80 80 80 80 80 80 80 80 80 01", "gap 2 10 10"),
-    (&[12], 0, "80 80 80 80 80 80 80 80 80 7f", "gap 2 10 10"),
+    (&[13], 0, "80 80 80 80 80 80 80 80 80 01", "gap 2 10 10 9"),
+    (&[12], 0, "80 80 80 80 80 80 80 80 80 7f", "gap 2 10 10 9"),
     (&[13], 0, "80 80 80 80 80 80 80 80 80 7f", "number -9223372036854775808 10 10"),
-    (&[12], 0, "ff ff ff ff ff ff ff ff ff 00", "gap 3 10 10"),
+    (&[12], 0, "ff ff ff ff ff ff ff ff ff 00", "gap 3 10 10 9"),
     (&[13], 0, "ff ff ff ff ff ff ff ff ff 00", "number 9223372036854775807 10 10"),
-    (&[13], 0, "ff ff ff ff ff ff ff ff ff 7f", "gap 3 10 10"),
+    (&[13], 0, "ff ff ff ff ff ff ff ff ff 7f", "gap 3 10 10 9"),
     // A block that ends with a group: its length is a start.
     (&[12, 13], 2, "80 01", "finished 2"),
     (&[14], 1, "80 01", "start 2"),
@@ -256,16 +259,180 @@ const BLOCK: &[Read] = &[
     (&[15], 2, "00 80 01", "count 2 0 128"),
     (&[15], 1, "00 80 01", "refused 5 7777777777777777777"),
     (&[15], 0, "00 80 01", "refused 5"),
-    (&[15], 1, "01 02 80", "refused 1 7777777777777777777"),
-    (&[15], 1, "01 02 80 00", "refused 3 7777777777777777777"),
-    (&[15], 3, "01 80 00 80", "refused 3 7777777777777777777 7777777777777777777 7777777777777777777"),
-    (&[15], 1, "ff ff ff ff ff ff ff ff ff 02 80 00", "refused 2 7777777777777777777"),
-    (&[15], 1, "80 00 ff ff ff ff ff ff ff ff ff 02", "refused 3 7777777777777777777"),
+    (&[15], 1, "01 02 80", "refused 1 3 7777777777777777777"),
+    (&[15], 1, "01 02 80 00", "refused 3 3 7777777777777777777"),
+    (&[15], 3, "01 80 00 80", "refused 3 2 7777777777777777777 7777777777777777777 7777777777777777777"),
+    (&[15], 1, "ff ff ff ff ff ff ff ff ff 02 80 00", "refused 2 9 7777777777777777777"),
+    (&[15], 1, "80 00 ff ff ff ff ff ff ff ff ff 02", "refused 3 1 7777777777777777777"),
     // What the list below wrote, read back.
     (&[15], 5, "00 7f 80 01 b9 64 ff ff ff ff ff ff ff ff ff 01", "count 5 0 127 128 12857 18446744073709551615"),
     // A slice that is not asked for.
     (&[15], 65537, "05", "unknown"),
     (&[15], 18446744073709551615, "", "unknown"),
+];
+
+/// Document 02, #108: "the place of the byte that decided it", read at a start and with other bytes
+/// before it and behind.
+#[rustfmt::skip]
+const READ_PLACE: &[Read] = &[
+    // "For 1 the end of the bytes", with no byte left, with one, with one less than the most.
+    (&[1, 2, 3, 4], 2, "05 80", "refused 1 2"),
+    (&[1, 2, 3, 4], 4, "80 80 01 00", "refused 1 4"),
+    (&[1, 2, 3, 4], 2, "05 00 ff", "refused 1 3"),
+    (&[1, 2, 3, 4], 3, "05 80 00 80 80", "refused 1 5"),
+    (&[1, 2, 3, 4], 1, "80 80 80", "refused 1 3"),
+    (&[1, 2, 4], 2, "05 00 ff ff ff ff ff ff ff ff ff", "refused 1 11"),
+    (&[1, 2, 4], 1, "80 80 80 80 80 80 80 80 80 80", "refused 1 10"),
+    (&[3], 2, "05 00 ff ff ff ff", "refused 1 6"),
+    (&[3], 1, "80 80 80 80 80", "refused 1 5"),
+    // "For 2 the byte at the greatest length": ten high bytes, eleven, and more with an end.
+    (&[1, 2, 4], 0, "ff ff ff ff ff ff ff ff ff ff", "refused 2 9"),
+    (&[1, 2, 4], 0, "80 80 80 80 80 80 80 80 80 80 80", "refused 2 9"),
+    (&[1, 2, 4], 0, "80 80 80 80 80 80 80 80 80 80 00", "refused 2 9"),
+    (&[1, 2, 4], 0, "ff ff ff ff ff ff ff ff ff ff ff ff 7f 05", "refused 2 9"),
+    (&[1, 2, 4], 2, "05 00 80 80 80 80 80 80 80 80 80 80", "refused 2 11"),
+    (&[1, 2, 4], 2, "05 80 ff ff ff ff ff ff ff ff ff ff ff", "refused 2 11"),
+    (&[1, 2, 4], 3, "80 80 01 80 80 80 80 80 80 80 80 80 80 01 05", "refused 2 12"),
+    (&[1, 2, 4], 1, "80 ff ff ff ff ff ff ff ff ff ff ff ff ff 00 05 06", "refused 2 10"),
+    // A last byte that is not allowed.
+    (&[1, 2], 0, "80 80 80 80 80 80 80 80 80 02 05", "refused 2 9"),
+    (&[1, 2], 2, "05 00 ff ff ff ff ff ff ff ff ff 02 80 00", "refused 2 11"),
+    (&[1, 2], 3, "05 80 01 80 80 80 80 80 80 80 80 80 7f 05", "refused 2 12"),
+    (&[4], 3, "80 80 01 80 80 80 80 80 80 80 80 80 01 05", "refused 2 12"),
+    (&[4], 1, "80 ff ff ff ff ff ff ff ff ff 7e 7f", "refused 2 10"),
+    (&[4], 2, "05 06 ff ff ff ff ff ff ff ff ff 40 80", "refused 2 11"),
+    // 32 bits: the fifth byte, however many high ones follow.
+    (&[3], 0, "80 80 80 80 80 00", "refused 2 4"),
+    (&[3], 0, "ff ff ff ff ff ff ff ff ff 01", "refused 2 4"),
+    (&[3], 0, "80 80 80 80 80 80 80 80 80 80 80", "refused 2 4"),
+    (&[3], 1, "80 ff ff ff ff ff ff ff ff ff 01", "refused 2 5"),
+    (&[3], 2, "05 00 80 80 80 80 80", "refused 2 6"),
+    (&[3], 2, "05 00 80 80 80 80 80 80 01", "refused 2 6"),
+    (&[3], 2, "05 80 80 80 80 80 80 80 80 80 80 80 80", "refused 2 6"),
+    (&[3], 2, "05 00 ff ff ff ff 10 80 00", "refused 2 6"),
+    (&[3], 3, "00 00 00 80 80 80 80 7f 00", "refused 2 7"),
+    // "For 3 the last byte", and not the last of all.
+    (&[1, 2, 3, 4], 0, "80 00 05", "refused 3 1"),
+    (&[1, 2, 3, 4], 1, "80 80 00", "refused 3 2"),
+    (&[1, 2, 3, 4], 2, "05 80 80 00 80 05", "refused 3 3"),
+    (&[1, 2, 3, 4], 1, "00 80 80 80 00 00 81", "refused 3 4"),
+    (&[1, 2, 3], 2, "05 06 ff ff 00 00", "refused 3 4"),
+    (&[4], 2, "7f ff ff ff 7f 7f", "refused 3 4"),
+    (&[4], 1, "05 c0 7f 00", "refused 3 2"),
+    (&[4], 1, "05 bf 00 80", "refused 3 2"),
+    (&[1, 2, 4], 0, "80 80 80 80 80 80 80 80 00 05", "refused 3 8"),
+    (&[3], 0, "80 80 80 80 80 80 80 80 00 05", "refused 2 4"),
+    // There it stands at the greatest length.
+    (&[1, 2, 4], 2, "05 00 80 80 80 80 80 80 80 80 80 00 80 01", "refused 3 11"),
+    (&[1, 2], 1, "80 ff ff ff ff ff ff ff ff ff 00 00", "refused 3 10"),
+    (&[4], 1, "80 ff ff ff ff ff ff ff ff ff 7f 7f", "refused 3 10"),
+    (&[3], 2, "05 00 80 80 80 80 00 05", "refused 3 6"),
+    (&[3], 1, "80 ff ff ff ff 00 00", "refused 3 5"),
+    // "For 4 the start asked": one more than the length, and others up to the largest place.
+    (&[1, 2, 3, 4], 4, "05 80 00", "refused 4 4"),
+    (&[1, 2, 3, 4], 3, "80 80", "refused 4 3"),
+    (&[1, 2, 3, 4], 9, "80 80 01", "refused 4 9"),
+    (&[1, 2, 3, 4], 65536, "05 80 00", "refused 4 65536"),
+    (&[1, 2, 3, 4], 4294967297, "05 80 00", "refused 4 4294967297"),
+    (&[1, 2, 3, 4], 9223372036854775808, "05 80 00", "refused 4 9223372036854775808"),
+    (&[1, 2, 3, 4], 18446744073709551614, "05 80 00", "refused 4 18446744073709551614"),
+    (&[1, 2, 3, 4], 18446744073709551615, "80 80 01", "refused 4 18446744073709551615"),
+    (&[1, 2, 3, 4], 18446744073709551615, "", "refused 4 18446744073709551615"),
+];
+
+/// Document 02, #108: "Gaps carry it too", and strict reading "passes it on for 2 and 3; for a tail
+/// it gives the block's end".
+#[rustfmt::skip]
+const BLOCK_PLACE: &[Read] = &[
+    // Steps: 3 behind other groups, by both rules and by one alone.
+    (&[12, 13], 0, "80 00 05 80 00", "gap 3 2 2 1"),
+    (&[12, 13], 3, "80 00 05 80 00", "gap 3 2 5 4"),
+    (&[12, 13], 3, "05 80 01 80 80 00 06", "gap 3 3 6 5"),
+    (&[12, 13], 1, "05 80 80 80 80 80 80 80 80 80 00 06", "gap 3 10 11 10"),
+    (&[12], 1, "05 ff ff 00 80", "gap 3 3 4 3"),
+    (&[13], 1, "05 ff ff 00 80", "number 16383 3 4"),
+    (&[12], 2, "05 06 ff 7f 80", "number 16383 2 4"),
+    (&[13], 2, "05 06 ff 7f 80", "gap 3 2 4 3"),
+    (&[12], 1, "05 ff ff ff ff ff ff ff ff ff 00 06", "gap 3 10 11 10"),
+    (&[13], 1, "05 ff ff ff ff ff ff ff ff ff 7f 06", "gap 3 10 11 10"),
+    // 2 behind other groups: in ten bytes, and in more, where it is not the group's last byte.
+    (&[12, 13], 1, "05 ff ff ff ff ff ff ff ff ff 02 06", "gap 2 10 11 10"),
+    (&[12], 3, "05 80 01 80 80 80 80 80 80 80 80 80 7f 06", "gap 2 10 13 12"),
+    (&[13], 3, "05 80 01 80 80 80 80 80 80 80 80 80 01 06", "gap 2 10 13 12"),
+    (&[12, 13], 1, "05 ff ff ff ff ff ff ff ff ff ff 00", "gap 2 11 12 10"),
+    (&[12, 13], 2, "05 06 80 80 80 80 80 80 80 80 80 80 80 80 01 07", "gap 2 13 15 11"),
+    (&[12, 13], 0, "80 80 80 80 80 80 80 80 80 80 01 80 80 80 80 80 80 80 80 80 80 80 7f 05", "gap 2 11 11 9"),
+    (&[12, 13], 11, "80 80 80 80 80 80 80 80 80 80 01 80 80 80 80 80 80 80 80 80 80 80 7f 05", "gap 2 12 23 20"),
+    // A step's own refusals and set-down's have no place, there or elsewhere.
+    (&[12, 13], 4, "05 80 01 80 80 00 06", "refused 6"),
+    (&[12, 13], 5, "05 80 01 80 80 00 06", "refused 6"),
+    (&[12, 13, 14], 8, "05 80 01 80 80 00 06", "refused 4"),
+    (&[12, 13, 14], 18446744073709551615, "05 80 01 80 80 00 06", "refused 4"),
+    (&[14], 2, "05 80 80", "refused 8"),
+    // Strict reading: a fault in the first group.
+    (&[15], 2, "80 00 05", "refused 3 1 7777777777777777777 7777777777777777777"),
+    (&[15], 0, "80 80 00", "refused 3 2"),
+    (&[15], 0, "80 80 80 80 80 80 80 80 80 00", "refused 3 9"),
+    (&[15], 0, "ff ff ff ff ff ff ff ff ff 02 05", "refused 2 9"),
+    (&[15], 1, "80 80 80 80 80 80 80 80 80 80 80 80 80 80 05", "refused 2 9 7777777777777777777"),
+    // In a later one, and in the last.
+    (&[15], 1, "05 80 01 06 80 80 00 07", "refused 3 6 7777777777777777777"),
+    (&[15], 1, "05 80 80 80 80 80 80 80 80 80 00 06", "refused 3 10 7777777777777777777"),
+    (&[15], 1, "05 80 01 ff ff ff ff ff ff ff ff ff 02 06", "refused 2 12 7777777777777777777"),
+    (&[15], 1, "05 80 01 80 80 80 80 80 80 80 80 80 80 80 00 06", "refused 2 12 7777777777777777777"),
+    (&[15], 0, "05 06 80 00", "refused 3 3"),
+    (&[15], 0, "05 06 ff ff ff ff ff ff ff ff ff ff ff 7f", "refused 2 11"),
+    // Two of them: "the first fault by place".
+    (&[15], 0, "05 80 00 ff ff ff ff ff ff ff ff ff 02", "refused 3 2"),
+    (&[15], 0, "05 ff ff ff ff ff ff ff ff ff ff 02 80 00", "refused 2 10"),
+    (&[15], 0, "05 80 80 00 06 80 00", "refused 3 3"),
+    // A gap before a tail.
+    (&[15], 0, "80 00 80", "refused 3 1"),
+    (&[15], 0, "05 80 80 00 ff ff", "refused 3 3"),
+    (&[15], 0, "05 80 80 80 80 80 80 80 80 80 80 01 80 80 80 80 80 80 80 80 80 80", "refused 2 10"),
+    // A tail alone.
+    (&[15], 1, "80", "refused 1 1 7777777777777777777"),
+    (&[15], 0, "ff ff ff", "refused 1 3"),
+    (&[15], 0, "80 80 80 80 80 80 80 80 80", "refused 1 9"),
+    (&[15], 0, "ff ff ff ff ff ff ff ff ff ff", "refused 1 10"),
+    (&[15], 0, "80 80 80 80 80 80 80 80 80 80 80 80 80", "refused 1 13"),
+    // A tail behind numbers.
+    (&[15], 1, "05 80 01 80", "refused 1 4 7777777777777777777"),
+    (&[15], 1, "05 ff ff ff ff ff ff ff ff ff", "refused 1 10 7777777777777777777"),
+    (&[15], 1, "05 80 80 80 80 80 80 80 80 80 80", "refused 1 11 7777777777777777777"),
+    (&[15], 1, "05 06 ff ff ff ff ff ff ff ff ff ff ff ff", "refused 1 14 7777777777777777777"),
+    // "Other refusals stay": 5 has no place.
+    (&[15], 1, "05 06", "refused 5 7777777777777777777"),
+    (&[15], 1, "80 01 80 80 01 06", "refused 5 7777777777777777777"),
+    (&[15], 0, "80 80 80 80 80 80 80 80 80 01", "refused 5"),
+];
+
+#[rustfmt::skip]
+const LONG_PLACE: &[Long] = &[
+    // Blocks of the most bytes: gaps and tails at their end.
+    (&[12, 13], 65534, 65534, "80 00", "gap 3 2 65536 65535"),
+    (&[12, 13], 65526, 65526, "ff ff ff ff ff ff ff ff ff 02", "gap 2 10 65536 65535"),
+    (&[12, 13], 65524, 65524, "80 80 80 80 80 80 80 80 80 80 80 01", "gap 2 12 65536 65533"),
+    (&[15], 0, 65534, "80 00", "refused 3 65535"),
+    (&[15], 0, 65526, "ff ff ff ff ff ff ff ff ff 02", "refused 2 65535"),
+    (&[15], 0, 65524, "80 80 80 80 80 80 80 80 80 80 80 01", "refused 2 65533"),
+    (&[15], 0, 65535, "80", "refused 1 65536"),
+    (&[15], 0, 65524, "ff ff ff ff ff ff ff ff ff ff ff ff", "refused 1 65536"),
+    // 5 and 7 have no place there.
+    (&[15], 0, 65536, "", "refused 5"),
+    (&[15], 0, 65536, "80", "refused 7"),
+    (&[15], 0, 65535, "80 00", "refused 7"),
+    // A number that begins where the longest block ends.
+    (&[1, 2, 3, 4], 65536, 65536, "", "refused 1 65536"),
+    (&[1, 2, 3, 4], 65536, 65536, "80 80 80 80", "refused 1 65540"),
+    (&[1, 2, 4], 65536, 65536, "80 80 80 80 80 80 80 80 80 80 80 80", "refused 2 65545"),
+    (&[3], 65536, 65536, "80 80 80 80 80 80 80 80 80 80 80 80", "refused 2 65540"),
+    (&[1, 2, 3, 4], 65536, 65536, "80 00 05", "refused 3 65537"),
+    (&[1, 2, 3, 4], 65538, 65537, "", "refused 4 65538"),
+    // The most bytes that a frame may have.
+    (&[1, 2, 3, 4], 299999, 299999, "80", "refused 1 300000"),
+    (&[1, 2, 4], 299990, 299990, "ff ff ff ff ff ff ff ff ff ff", "refused 2 299999"),
+    (&[3], 299990, 299990, "ff ff ff ff ff ff ff ff ff ff", "refused 2 299994"),
 ];
 
 #[rustfmt::skip]
@@ -425,6 +592,15 @@ pub fn put_known(input: &mut Vec<u8>) -> Vec<String> {
         lines.push(text_line(text));
     }
     lines.extend(put_limits(input));
+    for (ops, a, bytes, line) in READ_PLACE.iter().chain(BLOCK_PLACE) {
+        for op in *ops {
+            put(input, *op, *a, 0, &bytes_of(bytes));
+            lines.push(line.to_string());
+        }
+    }
+    // Past the last place of the longest block, from a start that is before it.
+    put(input, 2, 65530, 0, &fives_and(65530, &[0x80; 10]));
+    lines.push("refused 2 65539".to_string());
     lines
 }
 
@@ -474,7 +650,11 @@ fn put_limits(input: &mut Vec<u8>) -> Vec<String> {
 /// One byte too many. Place 65,536 is in the middle of a group, which is a gap; place 65,537 is the
 /// end, and place 65,538 past it.
 fn too_long() -> Vec<u8> {
-    [&[5; 65535][..], &[0x80, 0x00]].concat()
+    fives_and(65535, &[0x80, 0x00])
+}
+
+fn fives_and(count: usize, behind: &[u8]) -> Vec<u8> {
+    [&vec![5; count][..], behind].concat()
 }
 
 /// The known cases of the large run alone: they or their lines are long. Gives the answers as
@@ -511,6 +691,31 @@ pub fn put_long(input: &mut Vec<u8>) -> Vec<String> {
     // One number more, in the longest form.
     put_list(input, 1, &[LARGEST; 16385], &[0xa5; 163851]);
     lines.push("refused 7 ".to_string() + &"a5".repeat(163851));
+    lines.extend(put_long_places(input));
+    lines
+}
+
+/// The byte that decided, at the end of many or far before it.
+fn put_long_places(input: &mut Vec<u8>) -> Vec<String> {
+    let mut lines = Vec::new();
+    for (ops, a, fives, behind, line) in LONG_PLACE {
+        for op in *ops {
+            put(input, *op, *a, 0, &fives_and(*fives, &bytes_of(behind)));
+            lines.push(line.to_string());
+        }
+    }
+    // A tail of the most bytes, and a group.
+    put(input, 15, 0, 0, &[0x80; 65536]);
+    lines.push("refused 1 65536".to_string());
+    let group = [&[0x80; 65535][..], &[0x01]].concat();
+    for (op, line) in [
+        (12, "gap 2 65536 65536 9"),
+        (13, "gap 2 65536 65536 9"),
+        (15, "refused 2 9"),
+    ] {
+        put(input, op, 0, 0, &group);
+        lines.push(line.to_string());
+    }
     lines
 }
 

@@ -4,26 +4,34 @@
 //!   INPUTS, input   the names of inputs, and an input by its name
 
 use crate::blocks::{meaning, parts, Step, MOST_OF_BLOCK};
-use crate::numbers::{Rule, NOT_SHORTEST, OVERFLOW, TOO_LONG};
+use crate::numbers::{Refusal, Rule, NOT_SHORTEST, OVERFLOW, TOO_LONG};
 use crate::random::Random;
 
-/// "The last column is the number, or else the length. Rule: unsigned."
+/// "The last column is the number, or else the length. Rule: unsigned." Document 02, #108: "The
+/// listing prints as before", without the byte that decided a gap.
 pub fn listing(input: &[u8]) -> String {
     if input.len() > MOST_OF_BLOCK {
         return format!("refused {TOO_LONG}\n");
     }
     let mut text = "place what value\n".to_string();
     for part in parts(input) {
-        let (what, value) = match meaning(Rule::U64, part.bytes) {
+        let (what, value) = match meaning(Rule::U64, input, &part) {
             Step::Number(v, _) => ("number", v),
-            Step::Gap(NOT_SHORTEST, count) => ("not-shortest", count as i128),
-            Step::Gap(OVERFLOW, count) => ("overflow", count as i128),
+            Step::Gap(reason, count) => (gap_name(reason.refusal), count as i128),
             Step::Tail(count) => ("tail", count as i128),
-            Step::Gap(..) | Step::Finished => unreachable!(),
+            Step::Finished => unreachable!(),
         };
         text += &format!("{} {what} {value}\n", part.place);
     }
     text
+}
+
+fn gap_name(reason: Refusal) -> &'static str {
+    match reason {
+        NOT_SHORTEST => "not-shortest",
+        OVERFLOW => "overflow",
+        _ => unreachable!(),
+    }
 }
 
 pub const INPUTS: [&str; 7] = [

@@ -1,6 +1,7 @@
 //! Document 01's rules for one number.
 //!
 //!   Refusal        a number of the table of refusals, or document 02's
+//!   RefusalAt, at  a refusal with the place of the byte that decided it
 //!   Rule           a row of the table of widths
 //!   value          the number that the bytes of a form spell
 //!   one_too_many   whether the last byte of a form is one too many
@@ -12,7 +13,8 @@
 //! against a program that has such loops and must not share a slip with it. Where the document
 //! says a thing twice, both are here and `read` and `form` stop the run if they part.
 
-/// The number of a refusal, from the table of refusals; 9 from document 02, #101.
+/// The number of a refusal, from the table of refusals; 9 from document 02, #101. What refuses with
+/// this carries "its number and nothing else".
 pub type Refusal = u8;
 pub const END: Refusal = 1;
 pub const OVERFLOW: Refusal = 2;
@@ -23,6 +25,18 @@ pub const NOT_A_START: Refusal = 6;
 pub const TOO_LONG: Refusal = 7;
 pub const NO_START: Refusal = 8;
 pub const THREAD: Refusal = 9;
+
+/// Document 02, #108: "A number reader's refusal shall also give the place of the byte that decided
+/// it." Counted from the first of all the bytes, not from the start asked.
+#[derive(Clone, Copy, PartialEq)]
+pub struct RefusalAt {
+    pub refusal: Refusal,
+    pub place: u64,
+}
+
+pub fn at(refusal: Refusal, place: u64) -> RefusalAt {
+    RefusalAt { refusal, place }
+}
 
 /// "The nine values at which a 64-bit number grows by a byte."
 pub const GROWTH: [i128; 9] = [
@@ -157,21 +171,30 @@ fn signed_form(v: i128) -> Vec<u8> {
     bytes
 }
 
-/// The number at a place and its count of bytes. The refusals are decided by the rows of their
-/// table: 4 first, and 2 before 3.
-pub fn read(rule: Rule, bytes: &[u8], place: u64) -> Result<(i128, usize), Refusal> {
-    if place as u128 > bytes.len() as u128 {
-        return Err(PLACE);
+/// The number at a start and its count of bytes, or a refusal and the byte that decided it.
+pub fn read(rule: Rule, bytes: &[u8], start: u64) -> Result<(i128, usize), RefusalAt> {
+    let said = read_by_table(rule, bytes, start);
+    if let Err(refused) = said {
+        check_decided(rule, bytes, start, refused);
     }
-    let bytes = &bytes[place as usize..];
+    said
+}
+
+/// The refusals are decided by the rows of their table: 4 first, and 2 before 3. Their places are
+/// "for 1 the end of the bytes, for 2 the byte at the greatest length, for 3 the last byte, for 4
+/// the start asked".
+fn read_by_table(rule: Rule, all: &[u8], start: u64) -> Result<(i128, usize), RefusalAt> {
+    if start as u128 > all.len() as u128 {
+        return Err(at(PLACE, start));
+    }
+    let bytes = &all[start as usize..];
     let most = rule.most();
-    let all_high = |some: &[u8]| some.iter().all(|byte| *byte >= 128);
 
     if bytes.len() < most && all_high(bytes) {
-        return Err(END);
+        return Err(at(END, all.len() as u64));
     }
     if bytes.len() >= most && all_high(&bytes[..most - 1]) && !rule.allows_last(bytes[most - 1]) {
-        return Err(OVERFLOW);
+        return Err(at(OVERFLOW, start + most as u64 - 1));
     }
     // What is left has a byte below 128 among the most that are allowed, and the number ends there.
     let last = bytes.iter().position(|byte| *byte < 128).unwrap();
@@ -180,9 +203,39 @@ pub fn read(rule: Rule, bytes: &[u8], place: u64) -> Result<(i128, usize), Refus
     let v = value(rule, number);
     assert!(one_too_many(rule, number) == (form(rule, v) != number));
     if one_too_many(rule, number) {
-        return Err(NOT_SHORTEST);
+        return Err(at(NOT_SHORTEST, start + last as u64));
     }
     Ok((v, number.len()))
+}
+
+fn all_high(bytes: &[u8]) -> bool {
+    bytes.iter().all(|byte| *byte >= 128)
+}
+
+/// Stops the run if it is another byte that decided. For 4 and for 1 it is none that is there.
+fn check_decided(rule: Rule, bytes: &[u8], start: u64, refused: RefusalAt) {
+    let RefusalAt { refusal, place } = refused;
+    if refusal == PLACE {
+        assert!(place == start && place > bytes.len() as u64);
+        return;
+    }
+    // Readers "walk the bytes from the start": each before the one that decided says that another
+    // follows, and there are fewer of them than the most.
+    assert!(start <= place && place < start + rule.most() as u64);
+    let before = &bytes[..place as usize];
+    assert!(all_high(&before[start as usize..]));
+    // Cut off just before it, the bytes end too early.
+    assert!(read_by_table(rule, before, start) == Err(at(END, place)));
+    if refusal == END {
+        // A byte there that is below 128 would be their end.
+        let ended = [before, &[1]].concat();
+        let said = read_by_table(rule, &ended, start);
+        assert!(!said.is_err_and(|other| other.refusal == END));
+    } else {
+        // Cut off just behind it, they are refused as before.
+        let with_it = &bytes[..=place as usize];
+        assert!(read_by_table(rule, with_it, start) == Err(refused));
+    }
 }
 
 /// Puts the form of v at a place, all else kept, and gives its count of bytes.

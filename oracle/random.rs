@@ -3,7 +3,7 @@
 //!   Random                    the generator
 //!   below, byte               any number below a limit, any byte
 //!   number, far               a number of a width, a place past the end
-//!   bytes, damaged, longest   bytes that may be a form or not
+//!   bytes, damaged, lengthen, longest, part   bytes that may be a form or not
 //!   block, list_block         a block of groups of every kind, or of forms alone
 
 use crate::cases::FAR;
@@ -95,7 +95,7 @@ impl Random {
     }
 
     /// Adds a byte that may be one too many.
-    fn lengthen(&mut self, bytes: &mut Vec<u8>) {
+    pub fn lengthen(&mut self, bytes: &mut Vec<u8>) {
         *bytes.last_mut().unwrap() |= 128;
         bytes.push([0, 127][self.below(2)]);
     }
@@ -109,7 +109,7 @@ impl Random {
 
     /// Mostly one group: a form, a damaged one, one with a byte added, the longest, one longer than
     /// that; or any bytes.
-    fn part(&mut self) -> Vec<u8> {
+    pub fn part(&mut self) -> Vec<u8> {
         let rule = [U64, I64][self.below(2)];
         match self.below(8) {
             0 => {

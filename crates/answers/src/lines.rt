@@ -4,6 +4,7 @@ use blocks::Cursor;
 use groups::Value;
 use texts::decimal;
 use words::Count;
+use words::Place;
 use words::Refusal;
 
 // Room for a name and five numbers of 64 bits.
@@ -74,10 +75,13 @@ impl Line {
         self.number(words::number(refusal) as u64)
     }
 
+    pub(crate) fn place(self, place: Place) -> Line {
+        self.number(place.0 as u64)
+    }
+
     // A cursor's place.
     pub(crate) fn cursor(self, cursor: Cursor) -> Line {
-        let place = cursor.place;
-        self.number(place.0 as u64)
+        self.place(cursor.place)
     }
 
     // Lays the line down behind what is filled, and answers how many bytes then are.

@@ -10,6 +10,7 @@ use turns::Turn;
 use uleb128::ReadU32;
 use uleb128::ReadU64;
 use words::Count;
+use words::Place;
 use words::Refusal;
 use words::Written;
 
@@ -22,6 +23,10 @@ fn refused(refusal: Refusal) -> Line {
     says(b"refused").refusal(refusal)
 }
 
+fn decided(refusal: Refusal, place: Place) -> Line {
+    refused(refusal).place(place)
+}
+
 pub(crate) fn count(count: Count) -> Line {
     says(b"count").count(count)
 }
@@ -29,21 +34,21 @@ pub(crate) fn count(count: Count) -> Line {
 pub(crate) fn read_u64(answer: ReadU64) -> Line {
     match answer {
         ReadU64::Number(v, n) => says(b"number").number(v).count(n),
-        ReadU64::Refused(refusal) => refused(refusal),
+        ReadU64::Refused(refusal, place) => decided(refusal, place),
     }
 }
 
 pub(crate) fn read_u32(answer: ReadU32) -> Line {
     match answer {
         ReadU32::Number(v, n) => says(b"number").number(v as u64).count(n),
-        ReadU32::Refused(refusal) => refused(refusal),
+        ReadU32::Refused(refusal, place) => decided(refusal, place),
     }
 }
 
 pub(crate) fn read_i64(answer: ReadI64) -> Line {
     match answer {
         ReadI64::Number(v, n) => says(b"number").signed(v).count(n),
-        ReadI64::Refused(refusal) => refused(refusal),
+        ReadI64::Refused(refusal, place) => decided(refusal, place),
     }
 }
 
@@ -57,7 +62,10 @@ pub(crate) fn written(answer: Written) -> Line {
 pub(crate) fn step(answer: Step) -> Line {
     match answer {
         Step::Number(value, n, next) => says(b"number").value(value).count(n).cursor(next),
-        Step::Gap(reason, n, next) => says(b"gap").refusal(reason).count(n).cursor(next),
+        Step::Gap(reason, place, n, next) => says(b"gap").refusal(reason)
+            .count(n)
+            .cursor(next)
+            .place(place),
         Step::Tail(n, next) => says(b"tail").count(n).cursor(next),
         Step::Finished(next) => says(b"finished").cursor(next),
         Step::Refused(refusal) => refused(refusal),
@@ -89,6 +97,7 @@ pub(crate) fn meaning(answer: Meaning) -> Line {
 pub(crate) fn read_list(answer: ReadList) -> Line {
     match answer {
         ReadList::Filled(numbers) => says(b"count").number(numbers.0 as u64),
+        ReadList::Faulty(refusal, place) => decided(refusal, place),
         ReadList::Refused(refusal) => refused(refusal),
     }
 }

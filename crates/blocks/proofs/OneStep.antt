@@ -6,7 +6,7 @@ use mathlib.Core.Path.{_≡_, refl, ap}
 use native.Mathlib.Omega.{arith}
 use Rattle.words.specs.Answer.{numberIn}
 use Rattle.words.proofs.OneNumber.{refusalOf, refusal-back}
-use Rattle.words.proofs.OneMeaning.{same-by, back}
+use Rattle.words.proofs.OneMeaning.{same-by, back, placeIn}
 use Rattle.blocks.specs.Block.{Val, unsigned, signed, Stepped, number, gap, tail, finished, refuses}
 use Rattle.blocks.specs.Promise.{meansValue, meansStep, meansSetDown}
 use Rattle.blocks.specs.declared.Step.{Step}
@@ -29,14 +29,14 @@ same-step = same-by meansStep back is
 
     back : Stepped → Step
     back (number v n p) = S.Number (value v) (record { 0 = n }) (record { place = record { 0 = p } })
-    back (gap k n p) = S.Gap (refusalOf (numberIn k)) (record { 0 = n }) (record { place = record { 0 = p } })
+    back (gap k n p) = S.Gap (refusalOf (numberIn k)) (record { 0 = placeIn k }) (record { 0 = n }) (record { place = record { 0 = p } })
     back (tail n p) = S.Tail (record { 0 = n }) (record { place = record { 0 = p } })
     back (finished p) = S.Finished (record { place = record { 0 = p } })
     back (refuses k) = S.Refused (refusalOf (numberIn k))
 
     is : (r : Step) → back (meansStep r) ≡ r
     is (S.Number v n c) = rw (value-is v)
-    is (S.Gap a n c) = rw (refusal-back a)
+    is (S.Gap a at n c) = rw (refusal-back a)
     is (S.Tail n c) = refl
     is (S.Finished c) = refl
     is (S.Refused a) = rw (refusal-back a)

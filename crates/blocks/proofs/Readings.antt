@@ -9,7 +9,7 @@ use mathlib.Core.List.{List, [], _∷_}
 use mathlib.Core.Logic.{_↔_}
 use native.Mathlib.Omega.{arith}
 use lib.ListN.{length, drop}
-use Rattle.words.specs.Answer.{Answer, gives, refused, because}
+use Rattle.words.specs.Answer.{Answer, gives, refused, becauseAt}
 use Rattle.words.specs.declared.Refusal.{Refusal}
 use Rattle.blocks.specs.Block.{Val, readBy}
 use Rattle.blocks.specs.Promise.{meansValue}
@@ -48,8 +48,10 @@ module _ (f : ℕ → Rule) (s : List ℕ) where
     all-given p _ k (at-tail _ n c a) = sym (no-group-in-tail p (step-rows (f p) s p (S.Tail n c) (block .bytes) .0 a .1))
     all-given p _ k (at-number _ v n c l a rest) =
         one-given p (n .0) (c .place .0) (gives (meansValue v)) l (step-rows (f p) s p (S.Number v n c) (block .bytes) .0 a .1) (λ j. all-given (c .place .0) l j rest)
-    all-given p _ k (at-gap _ why n c l a rest) =
-        one-given p (n .0) (c .place .0) (refused (because why)) l (step-rows (f p) s p (S.Gap why n c) (block .bytes) .0 a .1) (λ j. all-given (c .place .0) l j rest)
+    all-given p _ k (at-gap _ why j n c l a rest) =
+        let row = step-rows (f p) s p (S.Gap why (record { 0 = p + j }) n c) (block .bytes) .0 a in
+        let e : j ≡ row .1 = omega (arith, row .2) in
+        one-given p (n .0) (c .place .0) (refused (becauseAt why j)) l (rw e (row .3)) (λ i. all-given (c .place .0) l i rest)
 
     -- from a start a step does not refuse
     no-refusal : (p : ℕ) → Start s p → (why : Refusal) → StepRefused s p why → ⊥
@@ -69,11 +71,12 @@ module _ (f : ℕ → Rule) (s : List ℕ) where
         let b = further (row .1) in
         subst (ReaderGives f s p) (one-given p (n .0) q (gives (meansValue v)) (fromHere q) (row .1) (λ j. refl))
         (at-number p v n c (fromHere q) (step-row-kept (f p) s p (S.Number v n c) row) (ih q (b .0) (b .1)))
-    ends-by p k ih (S.Gap why n c) row =
+    ends-by p k ih (S.Gap why at n c) row =
         let q = c .place .0 in
-        let b = further (row .1) in
-        subst (ReaderGives f s p) (one-given p (n .0) q (refused (because why)) (fromHere q) (row .1) (λ j. refl))
-        (at-gap p why n c (fromHere q) (step-row-kept (f p) s p (S.Gap why n c) row) (ih q (b .0) (b .1)))
+        let j = row .1 in
+        let b = further (row .3) in
+        subst (ReaderGives f s p) (one-given p (n .0) q (refused (becauseAt why j)) (fromHere q) (row .3) (λ i. refl))
+        (at-gap p why j n c (fromHere q) (step-row-kept (f p) s p (S.Gap why (record { 0 = p + j }) n c) (row .0, j, refl, row .3)) (ih q (b .0) (b .1)))
 
     ends : (n p : ℕ) → length s - p < n → Start s p → ReaderGives f s p (fromHere p)
     ends zero p h k = absurd (omega arith)

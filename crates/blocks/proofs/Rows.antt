@@ -20,7 +20,7 @@ use native.Mathlib.Omega.{arith}
 use borrow.Author.Tests.{lt-ltb, le-ltb, le-leb, lt-leb, eq-eqb, ne-eqb}
 use lib.ListN.{length, take, drop, length-drop}
 use lib.Seq.{length-take-le}
-use Rattle.words.specs.Answer.{Answer, gives}
+use Rattle.words.specs.Answer.{Answer, gives, moved}
 use Rattle.words.specs.declared.Count.{Count}
 use Rattle.words.specs.declared.Refusal.the-variants.{TooLong, Place, NotAStart, NoStart}
 use Rattle.groups.specs.Group.{run}
@@ -84,7 +84,7 @@ module _ (rule : Rule) (s : List ℕ) (p : ℕ) where
             )
 
         pub step-group : {r : Step} {a : Answer Val} {n : ℕ} → p + run (drop p s) < length s → n ≡ run (drop p s) + 1
-            → a ≡ readBy rule (take (run (drop p s) + 1) (drop p s)) → meansStep r ≡ says a n p → Steps rule s p r
+            → a ≡ moved p (readBy rule (take (run (drop p s) + 1) (drop p s))) → meansStep r ≡ says a n p → Steps rule s p r
         step-group {a = a} h c e q =
             let size = length-take-le (run (drop p s) + 1) (drop p s) (omega (arith, length-drop p s)) in
             record { is = q ∙ ap (λ (i : ℕ). says a i p) (c ∙ sym size) ∙ ap (λ (b : Answer Val). says b (length (take (run (drop p s) + 1) (drop p s))) p) e ∙ sym (step-says h) }

@@ -10,10 +10,11 @@ use mathlib.Core.List.{List}
 use mathlib.Core.Logic.{_↔_}
 use native.Mathlib.Omega.{arith}
 use lib.ListN.{length, drop, length-drop}
-use Rattle.words.specs.Answer.{Answer, gives, refused, because}
+use Rattle.words.specs.Answer.{Answer, gives, refused, becauseAt, moved}
 use Rattle.words.specs.declared.Count.{Count}
+use Rattle.words.specs.declared.Place.{Place}
 use Rattle.words.specs.declared.Refusal.{Refusal}
-use Rattle.words.specs.declared.Refusal.the-variants.{Place, NotAStart, TooLong}
+use Rattle.words.specs.declared.Refusal.the-variants as W
 use Rattle.words.proofs.Cases.{by-order, by-test, clash}
 use Rattle.words.proofs.OneMeaning.{by-rows}
 use Rattle.groups.specs.Group.{Bytes}
@@ -50,8 +51,8 @@ module _ (rule : Rule) (s : List ℕ) (p : ℕ) where
   says-group g f k = sym (group-says (group-here k) rule f (k .start))
 
   -- what a group's reading makes a step say
-  said : {a : Answer Val} {n q : ℕ} (k : GroupReads rule s p a n q) → saysTo a n q ≡ saysBy rule (k .group) p
-  said k = rw (k .count, k .next, ← (k .reads)) (to-says (readBy rule (k .group)) (length (k .group)) p)
+  said : {a : Answer Val} {n q : ℕ} (k : GroupReads rule s p a n q) → saysTo (moved p a) n q ≡ saysBy rule (k .group) p
+  said k = rw (k .count, k .next, ← (k .reads)) (to-says (moved p (readBy rule (k .group))) (length (k .group)) p)
 
   -- where its row holds, an answer is a step's
   refused-row : (why : Refusal) → StepRefused s p why → Steps rule s p (S.Refused why)
@@ -70,17 +71,20 @@ module _ (rule : Rule) (s : List ℕ) (p : ℕ) where
   step-row-kept (S.Number v n c) h =
       let k : GroupReads rule s p (gives (meansValue v)) (n .0) (c .place .0) = h .1 in
       record { is = said k ∙ says-group (k .group) (h .0) (k .stands) }
-  step-row-kept (S.Gap why n c) h =
-      let k : GroupReads rule s p (refused (because why)) (n .0) (c .place .0) = h .1 in
-      record { is = said k ∙ says-group (k .group) (h .0) (k .stands) }
+  step-row-kept (S.Gap why at n c) h =
+      let k : GroupReads rule s p (refused (becauseAt why (h .1))) (n .0) (c .place .0) = h .3 in
+      record { is = ap (λ (i : ℕ). gap (becauseAt why i) (n .0) (c .place .0)) (h .2) ∙ said k ∙ says-group (k .group) (h .0) (k .stands) }
 
 -- a group's reading is one that an answer can tell
 heard : {A X : Type 0} (f : A → Val) (w : Width A) (g : List ℕ) → ((v : A) → valued f (reading w g) ≡ gives (f v) → X)
-    → ((why : Refusal) → valued f (reading w g) ≡ refused (because why) → X) → X
-heard f w g value fault = reading-cases w g (λ v n e. value v (ap (valued f) e)) (λ why e. fault why (ap (valued f) e))
+    → ((why : Refusal) (j : ℕ) → valued f (reading w g) ≡ refused (becauseAt why j) → X) → X
+heard f w g value fault = reading-cases w g (λ v n e. value v (ap (valued f) e)) (λ why j e. fault why j (ap (valued f) e))
 
 abbrev count : ℕ → Count
 count n = record { 0 = n }
+
+abbrev place : ℕ → Place
+place p = record { 0 = p }
 
 abbrev cursor : ℕ → Cursor
 cursor q = record { place = record { 0 = q } }
@@ -92,18 +96,18 @@ module _ (s : List ℕ) (p : ℕ) (f : length s ≤ blockLimit) (g : List ℕ) (
   group-row : (rule : Rule) → (r : Step) × StepRow rule s p r
   group-row Unsigned =
       heard unsigned u64 g (λ v e. (S.Number (N.Unsigned v) (count (length g)) (cursor (p + length g)), (f, reads Unsigned (gives (unsigned v)) e)))
-      (λ why e. (S.Gap why (count (length g)) (cursor (p + length g)), (f, reads Unsigned (refused (because why)) e)))
+      (λ why j e. (S.Gap why (place (p + j)) (count (length g)) (cursor (p + length g)), (f, j, refl, reads Unsigned (refused (becauseAt why j)) e)))
   group-row Signed =
       heard signed i64 g (λ v e. (S.Number (N.Signed v) (count (length g)) (cursor (p + length g)), (f, reads Signed (gives (signed v)) e)))
-      (λ why e. (S.Gap why (count (length g)) (cursor (p + length g)), (f, reads Signed (refused (because why)) e)))
+      (λ why j e. (S.Gap why (place (p + j)) (count (length g)) (cursor (p + length g)), (f, j, refl, reads Signed (refused (becauseAt why j)) e)))
 
 -- one of the rows holds
 module _ (rule : Rule) (s : List ℕ) (p : ℕ) where
   pub some-step-row : Bytes s → (r : Step) × StepRow rule s p r
   some-step-row bytes =
-      by-order blockLimit (length s) (λ h. (S.Refused TooLong, too-long h))
+      by-order blockLimit (length s) (λ h. (S.Refused W.TooLong, too-long h))
       (λ f.
-      by-order (length s) p (λ h. (S.Refused Place, past f h))
+      by-order (length s) p (λ h. (S.Refused W.Place, past f h))
       (λ h.
       by-order p (length s) (within f)
       (λ l. (S.Finished (cursor p), (f, omega arith, refl)))))
@@ -116,7 +120,7 @@ module _ (rule : Rule) (s : List ℕ) (p : ℕ) where
       within : length s ≤ blockLimit → p < length s → (r : Step) × StepRow rule s p r
       within f h =
           by-test (isStart s p) (λ t. let k = true-start s p (omega arith) t in standing f h k (from-start k))
-          (λ t. (S.Refused NotAStart, not-a-start f h (λ k. clash t (start-true k))))
+          (λ t. (S.Refused W.NotAStart, not-a-start f h (λ k. clash t (start-true k))))
 
 pub step-rows : (rule : Rule) (s : List ℕ) (p : ℕ) (r : Step) → Bytes s → Steps rule s p r ↔ StepRow rule s p r
 step-rows rule s p r bytes = by-rows (λ r r′ a b. same-step r r′ (a .is ∙ sym (b .is))) (step-row-kept rule s p) (some-step-row rule s p bytes) r

@@ -3,9 +3,10 @@
 --   blockLimit          the most bytes of a block
 --   isStart s p         p is 0, or stands just past a byte below 128
 --   Val                 a number by the rule that it was read by
---   readBy rule g       the reading of a group by the rule: its number, or the reason why it has none; `valued` says by which rule it was read
+--   readBy rule g       the reading of a group by the rule: its number, or the reason why it has none, with the place of the byte that decided it,
+--                       counted from the group's front; `valued` says by which rule it was read
 --   Stepped             what a step says, in document 01's numbers and values; its last number is the place of the cursor handed back
---   says, saysBy        what a step says of a group: its number, or else a gap
+--   says, saysBy        what a step says of a group: its number, or else a gap, whose place is counted from the block's front
 --   stepping rule s p   the rows of a step in their order
 --   settingDown s p     the least start at or after p, or 8
 use Prim.Native.Nat.{ℕ, _+_, _-_}
@@ -14,7 +15,7 @@ use mathlib.Core.Bool.{Bool, not}
 use lib.Dec.{leb, ltb, eqb}
 use lib.IntN.{ℤ}
 use lib.ListN.{length, getD, take, drop}
-use Rattle.words.specs.Answer.{pick, Answer, gives, refused, either, by, Why}
+use Rattle.words.specs.Answer.{pick, Answer, gives, refused, either, by, Why, moved}
 use Rattle.groups.specs.Group.{run}
 use Rattle.groups.specs.Width.{reading}
 use Rattle.uleb128.specs.Unsigned.{u64}
@@ -54,7 +55,7 @@ says (gives v) n p = number v n (p + n)
 says (refused k) n p = gap k n (p + n)
 
 abbrev pub saysBy : Rule → List ℕ → ℕ → Stepped
-saysBy rule g p = says (readBy rule g) (length g) p
+saysBy rule g p = says (moved p (readBy rule g)) (length g) p
 
 unfoldable pub stepping : Rule → List ℕ → ℕ → Stepped
 stepping rule s p =

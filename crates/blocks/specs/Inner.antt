@@ -6,7 +6,7 @@
 use Prim.Native.Nat.{ℕ}
 use mathlib.Core.List.{List}
 use mathlib.Core.Path.{_≡_}
-use Rattle.words.specs.Answer.{Answer, gives, refused, because}
+use Rattle.words.specs.Answer.{Answer, gives, refused, becauseAt}
 use Rattle.groups.specs.Width.{read}
 use Rattle.uleb128.specs.Unsigned.{u64}
 use Rattle.sleb128.specs.Signed.{i64}
@@ -19,7 +19,7 @@ use Rattle.blocks.specs.declared.Rule.the-variants.{Unsigned, Signed}
 
 abbrev pub meansReading : Reading → Answer Val
 meansReading (G.Number v) = gives (meansValue v)
-meansReading (G.Fault why) = refused (because why)
+meansReading (G.Fault why at) = refused (becauseAt why (at .0))
 
 abbrev pub readAt : Rule → List ℕ → ℕ → Answer Val
 readAt Unsigned s p = valued unsigned (read u64 s p)

@@ -7,7 +7,7 @@
 use Prim.Native.Nat.{ℕ}
 use mathlib.Core.List.{List}
 use mathlib.Core.Path.{_≡_}
-use Rattle.words.specs.Answer.{Answer, gives, refused, because}
+use Rattle.words.specs.Answer.{Answer, gives, refused, because, becauseAt}
 use Rattle.blocks.specs.Block.{Val, unsigned, signed, Stepped, number, gap, tail, finished, refuses, stepping, settingDown}
 use Rattle.blocks.specs.declared.Rule.{Rule}
 use Rattle.groups.specs.declared.Value.{Value}
@@ -23,7 +23,7 @@ meansValue (N.Signed v) = signed v
 
 abbrev pub meansStep : Step → Stepped
 meansStep (S.Number v n c) = number (meansValue v) (n .0) (c .place .0)
-meansStep (S.Gap why n c) = gap (because why) (n .0) (c .place .0)
+meansStep (S.Gap why at n c) = gap (becauseAt why (at .0)) (n .0) (c .place .0)
 meansStep (S.Tail n c) = tail (n .0) (c .place .0)
 meansStep (S.Finished c) = finished (c .place .0)
 meansStep (S.Refused why) = refuses (because why)

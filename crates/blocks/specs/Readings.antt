@@ -3,11 +3,11 @@
 --   Block s               the bytes s are a block within the limit
 --   readings f gs         the readings of the groups gs, each by the rule that f chooses for its place
 --   ReaderGives f s p l   from the place p on, steps by the rules that f chooses give the readings l, each with its place and its count of bytes,
---                         until one says Tail or Finished
-use Prim.Native.Nat.{ℕ, _≤_}
+--                         until one says Tail or Finished; where a gap stands at p, the byte that decided it is counted from there
+use Prim.Native.Nat.{ℕ, _+_, _≤_}
 use mathlib.Core.List.{List, [], _∷_}
 use lib.ListN.{length}
-use Rattle.words.specs.Answer.{Answer, gives, refused, because}
+use Rattle.words.specs.Answer.{Answer, gives, refused, becauseAt}
 use Rattle.words.specs.declared.Count.{Count}
 use Rattle.words.specs.declared.Refusal.{Refusal}
 use Rattle.groups.specs.Group.{Bytes}
@@ -31,5 +31,6 @@ pub data ReaderGives (f : ℕ → Rule) (s : List ℕ) : ℕ → List (ℕ × �
   at-tail : (p : ℕ) (n : Count) (c : Cursor) → Steps (f p) s p (S.Tail n c) → ReaderGives f s p []
   at-number : (p : ℕ) (v : Value) (n : Count) (c : Cursor) (l : List (ℕ × ℕ × Answer Val))
       → Steps (f p) s p (S.Number v n c) → ReaderGives f s (c .place .0) l → ReaderGives f s p ((p, n .0, gives (meansValue v)) ∷ l)
-  at-gap : (p : ℕ) (why : Refusal) (n : Count) (c : Cursor) (l : List (ℕ × ℕ × Answer Val))
-      → Steps (f p) s p (S.Gap why n c) → ReaderGives f s (c .place .0) l → ReaderGives f s p ((p, n .0, refused (because why)) ∷ l)
+  at-gap : (p : ℕ) (why : Refusal) (j : ℕ) (n : Count) (c : Cursor) (l : List (ℕ × ℕ × Answer Val))
+      → Steps (f p) s p (S.Gap why (record { 0 = p + j }) n c) → ReaderGives f s (c .place .0) l
+      → ReaderGives f s p ((p, n .0, refused (becauseAt why j)) ∷ l)

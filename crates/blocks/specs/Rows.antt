@@ -1,14 +1,15 @@
 -- What is claimed of a step and of a set-down: document 01's rows, each answer exactly when.
 --
 --   GroupReads    a group at a place, its reading, its count of bytes and the place past it
---   StepRow       the row of each answer of a step; `StepRefused`: of each refusal
+--   StepRow       the row of each answer of a step; a gap's place is that of the byte of its group, the j-th, that decided it; `StepRefused`: of each
+--                 refusal
 --   Least s p q   q is the least start at p or later
 --   SetDownRow    the row of each answer of a set-down; `SetDownRefused`: of each refusal
 use Prim.Native.Nat.{ℕ, _+_, _≤_, _<_}
 use mathlib.Core.Path.{_≡_}
 use mathlib.Core.List.{List}
 use lib.ListN.{length}
-use Rattle.words.specs.Answer.{Answer, gives, refused, because}
+use Rattle.words.specs.Answer.{Answer, gives, refused, becauseAt}
 use Rattle.words.specs.declared.Refusal.{Refusal}
 use Rattle.words.specs.declared.Refusal.the-variants.{Place, NotAStart, TooLong, NoStart}
 use Rattle.blocks.specs.Block.{Val, readBy, blockLimit}
@@ -35,7 +36,8 @@ pub data StepRefused (s : List ℕ) (p : ℕ) : Refusal → Type 0 where
 
 abbrev pub StepRow : Rule → List ℕ → ℕ → Step → Type 0
 StepRow rule s p (S.Number v n c) = (length s ≤ blockLimit) × GroupReads rule s p (gives (meansValue v)) (n .0) (c .place .0)
-StepRow rule s p (S.Gap why n c) = (length s ≤ blockLimit) × GroupReads rule s p (refused (because why)) (n .0) (c .place .0)
+StepRow rule s p (S.Gap why at n c) =
+    (length s ≤ blockLimit) × (j : ℕ) × (at .0 ≡ p + j) × GroupReads rule s p (refused (becauseAt why j)) (n .0) (c .place .0)
 StepRow rule s p (S.Tail n c) = (length s ≤ blockLimit) × TailAt s p × (p + n .0 ≡ length s) × (c .place .0 ≡ p)
 StepRow rule s p (S.Finished c) = (length s ≤ blockLimit) × (p ≡ length s) × (c .place .0 ≡ p)
 StepRow rule s p (S.Refused why) = StepRefused s p why

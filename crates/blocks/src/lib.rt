@@ -31,19 +31,19 @@ pub struct Cursor {
 }
 
 // What a step says. Each but a refusal hands the cursor back: moved past one group by Number and Gap, as it was by Tail
-// and Finished.
+// and Finished. A gap has its reason and the place of the byte that decided it.
 pub enum Step {
     Number(Value, Count, Cursor),
-    Gap(Refusal, Count, Cursor),
+    Gap(Refusal, Place, Count, Cursor),
     Tail(Count, Cursor),
     Finished(Cursor),
     Refused(Refusal),
 }
 
-// A group's reading: its number, or the reason why it has none.
+// A group's reading: its number, or the reason why it has none and the place of the byte that decided it.
 enum Reading {
     Number(Value),
-    Fault(Refusal),
+    Fault(Refusal, Place),
 }
 
 pub enum SetDown {
@@ -100,11 +100,11 @@ fn read_by(rule: Rule, block: &[u8], at: usize) -> Reading
     match rule {
         Rule::Unsigned => match read_u64(block, Place(at)) {
             ReadU64::Number(v, _) => Reading::Number(Value::Unsigned(v)),
-            ReadU64::Refused(refusal) => Reading::Fault(refusal),
+            ReadU64::Refused(refusal, place) => Reading::Fault(refusal, place),
         },
         Rule::Signed => match read_i64(block, Place(at)) {
             ReadI64::Number(v, _) => Reading::Number(Value::Signed(v)),
-            ReadI64::Refused(refusal) => Reading::Fault(refusal),
+            ReadI64::Refused(refusal, place) => Reading::Fault(refusal, place),
         },
     }
 }
@@ -117,7 +117,7 @@ fn group(reading: Reading, at: usize, count: usize) -> Step
     let next = past(at, count);
     match reading {
         Reading::Number(value) => Step::Number(value, Count(count), next),
-        Reading::Fault(refusal) => Step::Gap(refusal, Count(count), next),
+        Reading::Fault(refusal, place) => Step::Gap(refusal, place, Count(count), next),
     }
 }
 

@@ -3,6 +3,7 @@
 --   damage-front        every group that ends before the stretch stands as before, no other appears there, and a step there answers as before
 --   damage-back         every group that begins after the first byte below 128 past the stretch stands as before, its place moved only by the
 --                       change in length, no other appears there, and a step says of it what it said
+--   damage-back-gap     where such a group is a gap, the byte that decided it moves with it
 --   damage-front-read   what a reader gives that ends before the stretch is the same list, if the rules chosen there are the same
 --   damage-back-read    what it gives that begins after that byte is the same list, with places counted from there, if the rules chosen there
 --                       are the same
@@ -14,6 +15,7 @@ use native.Mathlib.Omega.{arith}
 use lib.ListN.{length, drop, length-append}
 use lib.Dec.{leb}
 use Rattle.words.specs.Answer.{Answer}
+use Rattle.words.specs.declared.Place.{Place}
 use Rattle.words.proofs.Cases.{by-test}
 use Rattle.groups.specs.Group.{run}
 use Rattle.blocks.specs.Block.{Val, saysBy}
@@ -21,15 +23,17 @@ use Rattle.blocks.specs.Promise.{meansStep, Steps}
 use Rattle.blocks.specs.GroupsAndTail.{cut, GroupAt}
 use Rattle.blocks.specs.Places.{placed, listed, ending, from, less}
 use Rattle.blocks.specs.Readings.{Block, readings, ReaderGives}
+use Rattle.blocks.specs.declared.Cursor.{Cursor}
 use Rattle.blocks.specs.declared.Step.{Step}
+use Rattle.blocks.specs.declared.Step.the-variants as S
 use Rattle.blocks.specs.declared.Rule.{Rule}
 use Rattle.blocks.proofs.Cut.{total, all-bytes, Some, some-each}
 use Rattle.blocks.proofs.Local.{ends-before, begins-behind, groups-local}
 use Rattle.blocks.proofs.Places.{ends-within, begins-from}
 use Rattle.blocks.proofs.Readings.{reads-all}
 use Rattle.blocks.proofs.OneStep.{same-step}
-use Rattle.blocks.proofs.StepRows.{says-group}
-use Rattle.claims.specs.OfDamage.{Front, Back, FrontRead, BackRead}
+use Rattle.blocks.proofs.StepRows.{says-group, step-row-kept, step-rows}
+use Rattle.claims.specs.OfDamage.{Front, Back, GapMoves, FrontRead, BackRead}
 
 -- a step says of a group what its own bytes say
 said : {rule : Rule} {s : List ℕ} {p : ℕ} {g : List ℕ} {r : Step} → Block s → GroupAt s p g → Steps rule s p r → meansStep r ≡ saysBy rule g p
@@ -44,6 +48,17 @@ pub damage-back : Back
 damage-back a x y b p p′ g h e =
     let there : GroupAt (a ++ x ++ b) p g ↔ GroupAt (a ++ y ++ b) p′ g = begins-behind groups-local a x y b p p′ g (omega arith) e in
     (there, λ rule r r′ old new k w w′. (said old k w, said new (there .0 k) w′))
+
+pub damage-back-gap : GapMoves
+damage-back-gap a x y b p p′ h e rule why at n c r′ old new w w′ =
+    let row = step-rows rule (a ++ x ++ b) p (S.Gap why at n c) (old .bytes) .0 w in
+    let k = row .3 in
+    let at′ : Place = record { 0 = p′ + row .1 } in
+    let c′ : Cursor = record { place = record { 0 = p′ + length (k .group) } } in
+    let there = begins-behind groups-local a x y b p p′ (k .group) (omega arith) e .0 (k .stands) in
+    let kept = step-row-kept rule (a ++ y ++ b) p′ (S.Gap why at′ n c′)
+    (new .short, row .1, refl, record { group = k .group; stands = there; reads = k .reads; count = k .count; next = refl }) in
+    (at′, c′, same-step r′ (S.Gap why at′ n c′) (w′ .is ∙ sym (kept .is)), omega (arith, row .2, e))
 
 -- reading keeps places and counts
 readings-ending : (f : ℕ → Rule) (reach n : ℕ) (l : List (ℕ × ℕ × List ℕ)) → ending reach n (readings f l) ≡ readings f (ending reach n l)

@@ -4,6 +4,7 @@
 --   list                 list-back: a list of one number is written
 --   group                read-group: a group
 --   before, behind       damage-front, damage-back: in the block 05 80 07 03 the stretch 80 is replaced by nothing
+--   gap-behind           gap-within, damage-back-gap: in the block 05 80 07 80 00 a gap stands at place 3, decided by its last byte, at place 4
 --   old, new             both are blocks, so that damage-front-read and damage-back-read speak of them
 --   set-down, lost       reader-set-down, front-lost: at place 1 of 05 06, and of 05 06 07 whose first byte is lost
 --   no-start, no-byte    and where set-down refuses: 05 80 and 05, whose first byte is lost
@@ -16,19 +17,21 @@ use lib.ListN.{length, drop}
 use Rattle.words.specs.Answer.{gives}
 use Rattle.words.specs.Lays.{writing, laid}
 use Rattle.words.specs.declared.Count.{Count}
-use Rattle.words.specs.declared.Refusal.the-variants.{Place, NoStart}
+use Rattle.words.specs.declared.Refusal.the-variants.{NotShortest, Place, NoStart}
 use Rattle.words.specs.declared.Written.the-variants as W
 use Rattle.groups.specs.Form.{spell, spellings}
 use Rattle.groups.specs.Group.{Bytes, Group, one, run, digits}
 use Rattle.groups.specs.Width.{runsOut, tooLarge, tooMany, reading, read}
 use Rattle.uleb128.specs.Unsigned as unsigned
 use Rattle.sleb128.specs.Signed as signed
-use Rattle.blocks.specs.Block.{settingDown}
-use Rattle.blocks.specs.Promise.{SetsDown}
+use Rattle.blocks.specs.Block.{isStart, stepping, settingDown}
+use Rattle.blocks.specs.Promise.{Steps, SetsDown}
 use Rattle.blocks.specs.GroupsAndTail.{GroupAt}
 use Rattle.blocks.specs.Readings.{Block}
 use Rattle.blocks.specs.declared.Cursor.{Cursor}
+use Rattle.blocks.specs.declared.Rule.the-variants.{Unsigned}
 use Rattle.blocks.specs.declared.SetDown.the-variants as D
+use Rattle.blocks.specs.declared.Step.the-variants as S
 use Rattle.blocks.proofs.FromStart.{front-start}
 use Rattle.lists.specs.Lists.{forms}
 use Rattle.lists.specs.Promise.{WritesList}
@@ -84,6 +87,11 @@ module _ where
   behind : (length (a ++ x) + run b < 3) × GroupAt (a ++ x ++ b) 3 (3 ∷ [])
   unfolding run
   behind = (omega arith, record { start = record { here = omega arith; behind = inr (omega arith, omega arith) }; is-group = group; there = refl })
+
+  gap-behind : (length (a ++ x) + run (7 ∷ 0x80 ∷ 0 ∷ []) < 3)
+      × Steps Unsigned (a ++ x ++ 7 ∷ 0x80 ∷ 0 ∷ []) 3 (S.Gap NotShortest (record { 0 = 4 }) (count 2) (cursor 5))
+  unfolding stepping isStart run reading runsOut tooLarge tooMany
+  gap-behind = (omega arith, record { is = refl })
 
   small : (s : List ℕ) → Bytes s → length s < 5 → Block s
   small s bytes h = record { bytes = bytes; short = omega arith }

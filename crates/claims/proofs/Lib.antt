@@ -5,6 +5,7 @@ mod Forms
 mod Growth
 mod Source
 mod ReadGroup
+mod Gaps
 mod ListBack
 mod FirstFault
 mod StrictRows

@@ -48,22 +48,22 @@ pub form-alone : (v : ℕ) → v < 2 ^ 64 → reading u64 (form v) ≡ gives (v,
 form-alone v h = ap (reading u64) (sym (append-nil (form v))) ∙ read-form v [] h
 
 -- a form in front is a number in front
-pub numbers-ahead : (v : ℕ) (l : List ℕ) → v < 2 ^ 64 → numbers (form v ++ l) ≡ joined (gives (v, length (form v))) (numbers l)
-numbers-ahead v rest h =
+pub numbers-ahead : (p v : ℕ) (l : List ℕ) → v < 2 ^ 64 → numbers p (form v ++ l) ≡ joined (gives (v, length (form v))) (numbers (p + length (form v)) l)
+numbers-ahead p v rest h =
     let l = form v ++ rest in
     let c : length (form v) ≡ run l + 1 = reading-count u64 l (read-form v rest h) in
     let r : run l < length l = rw length-append (omega (arith, c)) in
     let t : take (run l + 1) l ≡ form v = ap (λ (n : ℕ). take n l) (sym c) ∙ take-append-seam (form v) rest in
     let d : drop (run l + 1) l ≡ rest = ap (λ (n : ℕ). drop n l) (sym c) ∙ drop-append-seam (form v) rest in
-    numbers-group l r ∙ rw (t, d, form-alone v h)
+    numbers-group p l r ∙ rw (t, d, form-alone v h)
 
-pub numbers-forms : (ns : List ℕ) → Of64Bits ns → numbers (forms ns) ≡ gives ns
+pub numbers-forms : (p : ℕ) (ns : List ℕ) → Of64Bits ns → numbers p (forms ns) ≡ gives ns
 unfolding forms
-numbers-forms [] h = numbers-none [] refl
-numbers-forms (v ∷ ns) h = numbers-ahead v (forms ns) (h .0) ∙ rw (numbers-forms ns (h .1))
+numbers-forms p [] h = numbers-none p [] refl
+numbers-forms p (v ∷ ns) h = numbers-ahead p v (forms ns) (h .0) ∙ rw (numbers-forms (p + length (form v)) ns (h .1))
 
 -- what strict reading leaves of a block without a fault, for which there is room
-pub strict-fills : (s ns old : List ℕ) → length s ≤ blockLimit → numbers s ≡ gives ns → length ns ≤ length old
+pub strict-fills : (s ns old : List ℕ) → length s ≤ blockLimit → numbers 0 s ≡ gives ns → length ns ≤ length old
     → (strict s (length old) ≡ gives (length ns)) × (filled s old ≡ ns ++ drop (length ns) old)
 unfolding strict filled
 strict-fills s ns old short e room =
@@ -93,5 +93,5 @@ pub list-back : ListBack
 list-back ns before at n after old r out words w short room p =
     let k = written-there ns before at n after w in
     let b : length (take (n .0) (drop at after)) ≤ blockLimit = rw (k .1) (rw (k .0) at short) in
-    let q = strict-fills (take (n .0) (drop at after)) ns old b (ap numbers (k .1) ∙ numbers-forms ns words) room in
+    let q = strict-fills (take (n .0) (drop at after)) ns old b (ap (numbers 0) (k .1) ∙ numbers-forms 0 ns words) room in
     (same-list r (L.Filled (record { 0 = length ns })) (p .answer ∙ q .0), p .leaves ∙ q .1)

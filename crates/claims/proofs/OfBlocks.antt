@@ -8,11 +8,13 @@ use Rattle.blocks.proofs.SetDownRows.{set-down-row-kept, some-set-down-row as s
 use Rattle.claims.specs.OfBlocks.{OfBlocks}
 use Rattle.claims.proofs.ReaderSetDown.{reader-from, reader-set-down}
 use Rattle.claims.proofs.ReadGroup.{read-group}
+use Rattle.claims.proofs.Gaps.{gap-within}
 
 pub blocks : OfBlocks
 blocks = record {
   read-group = read-group;
   step-rows = step-rows;
+  gap-within = gap-within;
   set-down-rows = set-down-rows;
   reader-from = reader-from;
   reader-set-down = reader-set-down;

@@ -52,7 +52,7 @@ some-reply : (k : Kind) (s : List ℕ) (at : ℕ) → (r : Reply k) × ReadsAs k
 some-reply k s at =
     read-cases (width k) s at
     (λ v n e. (number k v (record { 0 = n }), number-says k s at v (record { 0 = n }) .1 e))
-    (λ why e. (refuse k why, refusal-says k s at why .1 e))
+    (λ why p e. (refuse k why (record { 0 = p }), refusal-says k s at why (record { 0 = p }) .1 e))
 
 length-is : (k : Kind) (v : Value k) (n : Count) → TakesAs k v n → n .0 ≡ length (form k v)
 length-is loop64 v n p = p .is

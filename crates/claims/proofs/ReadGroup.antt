@@ -3,7 +3,8 @@
 --   from-front    reading a list is reading from its place 0
 --   empty         a list of length 0 is the empty one
 --   group-bytes   a group is bytes
---   read-group    a group is read as a number exactly when it is its shortest form, and refused exactly by the row, 2 or 3, that holds
+--   read-group    a group is read as a number exactly when it is its shortest form, and refused exactly by the row, 2 or 3, that holds, decided by
+--                 that byte of the group
 use Prim.Native.Nat.{ℕ, zero, suc, _+_}
 use mathlib.Core.Path.{_≡_, refl, ap, sym, _∙_}
 use mathlib.Core.List.{List, [], _∷_, _++_, append-nil}
@@ -12,19 +13,21 @@ use borrow.Author.Tests.{le-ltb}
 use lib.ListN.{length, length-append}
 use Rattle.words.specs.Answer.{gives}
 use Rattle.words.specs.declared.Refusal.{Refusal}
-use Rattle.groups.specs.Group.{Bytes, Group, one, more}
+use Rattle.words.proofs.Moved.{moved-none}
+use Rattle.groups.specs.Group.{Bytes, Group, one, more, run}
 use Rattle.groups.specs.Width.{Width, reading, read}
 use Rattle.groups.proofs.Exact.{group-length}
 use Rattle.groups.proofs.Run.{high-full}
+use Rattle.groups.proofs.Stands.{run-behind}
 use Rattle.claims.specs.Kinds.{Kind, Value, width, form, OfWidth}
-use Rattle.claims.specs.Table.{Row, GapRow}
+use Rattle.claims.specs.Table.{NotShortestRow, Row, GapRow}
 use Rattle.claims.specs.OfBlocks.{ReadGroup}
 use Rattle.claims.proofs.Readers.{reading-of, read-row}
 use Rattle.claims.proofs.TableRows.{row-refused}
 
 pub from-front : {A : Type 0} (w : Width A) (s : List ℕ) → read w s 0 ≡ reading w s
 unfolding read
-from-front w s = rw (le-ltb (length s) 0 (omega arith))
+from-front w s = rw (le-ltb (length s) 0 (omega arith)) (moved-none (reading w s))
 
 pub empty : (s : List ℕ) → length s ≡ 0 → s ≡ []
 empty [] e = refl
@@ -54,21 +57,25 @@ module _ (k : Kind) (g : List ℕ) where
         count = ap length e;
       })
 
-  gap-row : (why : Refusal) → Group g → Row (width k) g 0 why → GapRow (width k) g why
-  gap-row _ group (Row.overflows h row) = GapRow.overflows row
-  gap-row _ group (Row.not-shortest h row) = GapRow.not-shortest row
-  gap-row _ group (Row.ends h row) = absurd (omega (arith, group-length group, high-full g (row .high)))
-  gap-row _ group (Row.past h) = absurd (omega arith)
+  -- a group that a group begins with is all of it
+  whole : Group g → (row : NotShortestRow (width k) g) → length (row .group) ≡ length g
+  whole group row = omega (arith, group-length group, group-length (row .is-group), run-behind (row .rest) (row .is-group), ap run (row .ends))
 
-  row-gap : (why : Refusal) → GapRow (width k) g why → Row (width k) g 0 why
-  row-gap _ (GapRow.overflows row) = Row.overflows (omega arith) row
-  row-gap _ (GapRow.not-shortest row) = Row.not-shortest (omega arith) row
+  gap-row : (why : Refusal) (j : ℕ) → Group g → Row (width k) g 0 j why → GapRow (width k) g j why
+  gap-row _ j group (Row.overflows h row e) = GapRow.overflows row (omega (arith, e))
+  gap-row _ j group (Row.not-shortest h row e) = GapRow.not-shortest row (omega (arith, e, whole group row))
+  gap-row _ j group (Row.ends h row e) = absurd (omega (arith, group-length group, high-full g (row .high)))
+  gap-row _ j group (Row.past h e) = absurd (omega arith)
+
+  row-gap : (why : Refusal) (j : ℕ) → Group g → GapRow (width k) g j why → Row (width k) g 0 j why
+  row-gap _ j group (GapRow.overflows row e) = Row.overflows (omega arith) row (omega (arith, e))
+  row-gap _ j group (GapRow.not-shortest row e) = Row.not-shortest (omega arith) row (omega (arith, e, whole group row))
 
   pub read-group : Group g → ReadGroup k g
   read-group group = record {
     number = λ v. (is-form v group, λ h. form-is v (h .0) (h .1));
-    gap = λ why. (
-      λ e. gap-row why group (read-row k g 0 (group-bytes group) why (from-front (width k) g ∙ e)),
-      λ row. sym (from-front (width k) g) ∙ row-refused (width k) (reading-of k .sound) why g 0 (row-gap why row),
+    gap = λ why j. (
+      λ e. gap-row why j group (read-row k g 0 (group-bytes group) why j (from-front (width k) g ∙ e)),
+      λ row. sym (from-front (width k) g) ∙ row-refused (width k) (reading-of k .sound) why g 0 j (row-gap why j group row),
     );
   }

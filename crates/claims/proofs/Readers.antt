@@ -21,10 +21,11 @@ use native.Mathlib.Omega.{arith}
 use lib.Dec.{leb→le, le→leb, lt→ltb, ltb→lt}
 use lib.IntN.{ℤ, pos, negsuc, negℤ}
 use lib.Signed.{mag, _≤ℤ_, _<ℤ_}
-use Rattle.words.specs.Answer.{Answer, gives, refused, because}
+use Rattle.words.specs.Answer.{Answer, gives, refused, becauseAt}
 use Rattle.words.specs.declared.Count.{Count}
+use Rattle.words.specs.declared.Place.{Place}
 use Rattle.words.specs.declared.Refusal.{Refusal}
-use Rattle.words.proofs.OneMeaning.{apart, refused-same, given-value, given-count, same-both}
+use Rattle.words.proofs.OneMeaning.{apart, decided-same, given-value, given-count, same-both}
 use Rattle.groups.specs.Begins.{Begins}
 use Rattle.groups.specs.Group.{Bytes}
 use Rattle.groups.specs.Width.{Width, read, Due}
@@ -95,32 +96,32 @@ number-says recursive64 s at v n = due-is
 number-says unsigned32 s at v n = due-is
 number-says signed64 s at v n = due-is
 
-pub refusal-says : (k : Kind) (s : List ℕ) (at : ℕ) (why : Refusal) → ReadsAs k s at (refuse k why) ↔ (read (width k) s at ≡ refused (because why))
-refusal-says loop64 s at why = due-is
-refusal-says recursive64 s at why = due-is
-refusal-says unsigned32 s at why = due-is
-refusal-says signed64 s at why = due-is
+pub refusal-says : (k : Kind) (s : List ℕ) (at : ℕ) (why : Refusal) (p : Place) → ReadsAs k s at (refuse k why p) ↔ (read (width k) s at ≡ refused (becauseAt why (p .0)))
+refusal-says loop64 s at why p = due-is
+refusal-says recursive64 s at why p = due-is
+refusal-says unsigned32 s at why p = due-is
+refusal-says signed64 s at why p = due-is
 
 -- an answer that a reader promises is one of its numbers or of its refusals, and what is read says the same
 reply-cases : {X : Type 0} (k : Kind) (s : List ℕ) (at : ℕ) (r : Reply k) → ReadsAs k s at r
     → ((v : Value k) (n : Count) → r ≡ number k v n → read (width k) s at ≡ gives (v, n .0) → X)
-    → ((why : Refusal) → r ≡ refuse k why → read (width k) s at ≡ refused (because why) → X) → X
+    → ((why : Refusal) (p : Place) → r ≡ refuse k why p → read (width k) s at ≡ refused (becauseAt why (p .0)) → X) → X
 reply-cases loop64 s at (R64.Number v n) p value fault = value v n refl (sym (p .is))
-reply-cases loop64 s at (R64.Refused why) p value fault = fault why refl (sym (p .is))
+reply-cases loop64 s at (R64.Refused why q) p value fault = fault why q refl (sym (p .is))
 reply-cases recursive64 s at (R64.Number v n) p value fault = value v n refl (sym (p .is))
-reply-cases recursive64 s at (R64.Refused why) p value fault = fault why refl (sym (p .is))
+reply-cases recursive64 s at (R64.Refused why q) p value fault = fault why q refl (sym (p .is))
 reply-cases unsigned32 s at (R32.Number v n) p value fault = value v n refl (sym (p .is))
-reply-cases unsigned32 s at (R32.Refused why) p value fault = fault why refl (sym (p .is))
+reply-cases unsigned32 s at (R32.Refused why q) p value fault = fault why q refl (sym (p .is))
 reply-cases signed64 s at (RI64.Number v n) p value fault = value v n refl (sym (p .is))
-reply-cases signed64 s at (RI64.Refused why) p value fault = fault why refl (sym (p .is))
+reply-cases signed64 s at (RI64.Refused why q) p value fault = fault why q refl (sym (p .is))
 
 -- an answer and what it says
 module _ (k : Kind) (s : List ℕ) (at : ℕ) where
   number-read : (r : Reply k) (v : Value k) (n : Count) → r ≡ number k v n → ReadsAs k s at r → read (width k) s at ≡ gives (v, n .0)
   number-read r v n e p = number-says k s at v n .0 (subst (ReadsAs k s at) e p)
 
-  refusal-read : (r : Reply k) (why : Refusal) → r ≡ refuse k why → ReadsAs k s at r → read (width k) s at ≡ refused (because why)
-  refusal-read r why e p = refusal-says k s at why .0 (subst (ReadsAs k s at) e p)
+  refusal-read : (r : Reply k) (why : Refusal) (q : Place) → r ≡ refuse k why q → ReadsAs k s at r → read (width k) s at ≡ refused (becauseAt why (q .0))
+  refusal-read r why q e p = refusal-says k s at why q .0 (subst (ReadsAs k s at) e p)
 
   pub read-number : (r : Reply k) (v : Value k) (n : Count) → ReadsAs k s at r → read (width k) s at ≡ gives (v, n .0) → r ≡ number k v n
   read-number r v n p e =
@@ -128,17 +129,19 @@ module _ (k : Kind) (s : List ℕ) (at : ℕ) where
       (λ u m d i.
       let q : _≡_ {A = Answer (Value k × ℕ)} (gives (u, m .0)) (gives (v, n .0)) = sym i ∙ e in
       d ∙ ap (λ (x : Value k × ℕ). number k (x .0) (record { 0 = x .1 })) (same-both (given-value q) (given-count q)))
-      (λ why d i. apart (sym e ∙ i))
+      (λ why q d i. apart (sym e ∙ i))
 
-  read-refusal : (r : Reply k) (why : Refusal) → ReadsAs k s at r → read (width k) s at ≡ refused (because why) → r ≡ refuse k why
-  read-refusal r why p e =
+  read-refusal : (r : Reply k) (why : Refusal) (q : Place) → ReadsAs k s at r → read (width k) s at ≡ refused (becauseAt why (q .0)) → r ≡ refuse k why q
+  read-refusal r why q p e =
       reply-cases k s at r p (λ v n d i. apart (sym i ∙ e))
-      (λ a d i. d ∙ ap (refuse k) (refused-same a why (sym i ∙ e)))
+      (λ a b d i.
+      let same = decided-same a why (sym i ∙ e) in
+      d ∙ ap (λ (x : Refusal). refuse k x b) (same .0) ∙ ap (λ (j : ℕ). refuse k why (record { 0 = j })) (same .1))
 
   pub one-reply : (r r′ : Reply k) → ReadsAs k s at r → ReadsAs k s at r′ → r ≡ r′
   one-reply r r′ p q =
       reply-cases k s at r p (λ v n e i. e ∙ sym (read-number r′ v n q i))
-      (λ why e i. e ∙ sym (read-refusal r′ why q i))
+      (λ why b e i. e ∙ sym (read-refusal r′ why b q i))
 
 pub accepts : (k : Kind) → Accepts k
 accepts k s at r bytes p v n = (
@@ -146,23 +149,24 @@ accepts k s at r bytes p v n = (
   λ b. read-number k s at r v n p (reading-of k .begun s at v (n .0) b),
 )
 
-pub read-row : (k : Kind) → (s : List ℕ) (at : ℕ) → Bytes s → (why : Refusal) → read (width k) s at ≡ refused (because why) → Row (width k) s at why
-read-row k s at bytes why e =
-    ⊎-elim (λ (row : (a : Refusal) × Row (width k) s at a).
-    subst (Row (width k) s at) (refused-same (row .0) why (sym (row-refused (width k) (reading-of k .sound) (row .0) s at (row .1)) ∙ e)) (row .1))
+pub read-row : (k : Kind) → (s : List ℕ) (at : ℕ) → Bytes s → (why : Refusal) (p : ℕ) → read (width k) s at ≡ refused (becauseAt why p) → Row (width k) s at p why
+read-row k s at bytes why p e =
+    ⊎-elim (λ (row : (a : Refusal) × (q : ℕ) × Row (width k) s at q a).
+    let same = decided-same (row .0) why (sym (row-refused (width k) (reading-of k .sound) (row .0) s at (row .1) (row .2)) ∙ e) in
+    subst (Row (width k) s at p) (same .0) (subst (λ (q : ℕ). Row (width k) s at q (row .0)) (same .1) (row .2)))
     (λ (g : (v : Value k) × (n : ℕ) × Stands (width k) s at v n). apart (sym (stands-read (width k) s at (g .2)) ∙ e))
     (row-or-number (width k) (reading-of k .sound) s at bytes)
 
 pub refuses : (k : Kind) → Refuses k
-refuses k s at r bytes p why = (
-  λ e. read-row k s at bytes why (refusal-read k s at r why e p),
-  λ row. read-refusal k s at r why p (row-refused (width k) (reading-of k .sound) why s at row),
+refuses k s at r bytes p why q = (
+  λ e. read-row k s at bytes why (q .0) (refusal-read k s at r why q e p),
+  λ row. read-refusal k s at r why q p (row-refused (width k) (reading-of k .sound) why s at (q .0) row),
 )
 
 pub excludes : (k : Kind) → Excludes k
 excludes k s at = (
-  λ a b p q. refused-same a b (sym (row-refused (width k) (reading-of k .sound) a s at p) ∙ row-refused (width k) (reading-of k .sound) b s at q),
-  λ a v n p b. apart (sym (reading-of k .begun s at v n b) ∙ row-refused (width k) (reading-of k .sound) a s at p),
+  λ a b p q x y. decided-same a b (sym (row-refused (width k) (reading-of k .sound) a s at p x) ∙ row-refused (width k) (reading-of k .sound) b s at q y),
+  λ a p v n x b. apart (sym (reading-of k .begun s at v n b) ∙ row-refused (width k) (reading-of k .sound) a s at p x),
 )
 
 pub exhausts : (k : Kind) → Exhausts k

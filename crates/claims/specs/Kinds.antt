@@ -2,7 +2,7 @@
 --
 --   Kind          u64 by loop, u64 by recursion, u32, i64
 --   Value         its numbers
---   Reply         what its reader answers: a number with its count of bytes (`number`), or a refusal (`refuse`)
+--   Reply         what its reader answers: a number with its count of bytes (`number`), or a refusal with its place (`refuse`)
 --   ReadsAs       what its reader promises: the `ensures` of `read_u64`, `read_u64_rec`, `read_u32`, `read_i64`
 --   WritesAs      what its writer promises: the `ensures` of `write_u64`, `write_u64_rec`, `write_u32`, `write_i64`
 --   TakesAs       what its length promises: `length_u64` (for both of 64 bits), `length_u32`, `length_i64`
@@ -13,6 +13,7 @@ use mathlib.Core.List.{List}
 use lib.IntN.{ℤ, pos, negℤ}
 use lib.Signed.{_≤ℤ_, _<ℤ_}
 use Rattle.words.specs.declared.Count.{Count}
+use Rattle.words.specs.declared.Place.{Place}
 use Rattle.words.specs.declared.Refusal.{Refusal}
 use Rattle.words.specs.declared.Written.{Written}
 use Rattle.groups.specs.Width.{Width}
@@ -49,11 +50,11 @@ number recursive64 v n = R64.Number v n
 number unsigned32 v n = R32.Number v n
 number signed64 v n = RI64.Number v n
 
-abbrev pub refuse : (k : Kind) → Refusal → Reply k
-refuse loop64 why = R64.Refused why
-refuse recursive64 why = R64.Refused why
-refuse unsigned32 why = R32.Refused why
-refuse signed64 why = RI64.Refused why
+abbrev pub refuse : (k : Kind) → Refusal → Place → Reply k
+refuse loop64 why p = R64.Refused why p
+refuse recursive64 why p = R64.Refused why p
+refuse unsigned32 why p = R32.Refused why p
+refuse signed64 why p = RI64.Refused why p
 
 abbrev pub ReadsAs : (k : Kind) → List ℕ → ℕ → Reply k → Type 0
 ReadsAs loop64 s at r = ReadsU64 s at r

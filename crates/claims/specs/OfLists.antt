@@ -2,15 +2,15 @@
 --
 --   Of64Bits ns          every number of the list has 64 bits
 --   IsForms s ns         the block s is the forms of the numbers ns, one after another: every group is a number, and there is no tail
---   Fault rest           at the front of the rest: 2 or 3, a group that is none by that row; 1, a tail of any length
---   FirstFault why s     behind the forms of some numbers, the first fault of the block s
---   StrictRefused        the row of each refusal: 7, then the first fault by place (1, 2 or 3, by `Fault`), then 5; no other refusal has a row
+--   FirstFault s p       behind the forms of some numbers, the first fault of the block s, decided at the place p: 2 or 3, a group that is none, by
+--                        that row; 1, a tail of any length
+--   StrictRefused        the row of each refusal without a place: 7, and 5, where there is no fault; no other refusal has a row
 --   StrictRow            the row of each answer, with the slice afterwards
 --   WritesLists          how a list is written
 --   ListBack             a list that was written, read back
 --   ListsMet, ListsOne   an answer meets each promise, and no second
 --   OfLists              all of it
-use Prim.Native.Nat.{ℕ, _≤_, _<_, _^_}
+use Prim.Native.Nat.{ℕ, _+_, _≤_, _<_, _^_}
 use mathlib.Core.Path.{_≡_}
 use mathlib.Core.List.{List, _++_, [], _∷_}
 use mathlib.Core.Logic.{_↔_}
@@ -37,27 +37,21 @@ Of64Bits (v ∷ ns) = (v < 2 ^ 64) × Of64Bits ns
 abbrev pub IsForms : List ℕ → List ℕ → Type 0
 IsForms s ns = (s ≡ forms ns) × Of64Bits ns
 
--- at the front of what is left: a group that is no number, or nothing but a tail
-pub data Fault (rest : List ℕ) : Refusal → Type 0 where
-  gap : {why : Refusal} (g more : List ℕ) → rest ≡ g ++ more → Group g → GapRow u64 g why → Fault rest why
-  tail : 0 < length rest → High rest → Fault rest End
-
-pub record FirstFault (why : Refusal) (s : List ℕ) : Type 0 where
-  pub ns : List ℕ
-  pub rest : List ℕ
-  pub words : Of64Bits ns
-  pub behind : s ≡ forms ns ++ rest
-  pub fault : Fault rest why
+-- a group that is no number, decided by its byte j; or nothing but a tail, decided by the block's end
+pub data FirstFault (s : List ℕ) (p : ℕ) : Refusal → Type 0 where
+  gap : {why : Refusal} (ns g more : List ℕ) (j : ℕ) → Of64Bits ns → s ≡ forms ns ++ (g ++ more) → Group g → GapRow u64 g j why
+      → p ≡ length (forms ns) + j → FirstFault s p why
+  tail : (ns t : List ℕ) → Of64Bits ns → s ≡ forms ns ++ t → 0 < length t → High t → p ≡ length s → FirstFault s p End
 
 pub data StrictRefused (s : List ℕ) (room : ℕ) : Refusal → Type 0 where
   too-long : blockLimit < length s → StrictRefused s room TooLong
-  faulty : {why : Refusal} → length s ≤ blockLimit → FirstFault why s → StrictRefused s room why
   no-room : length s ≤ blockLimit → (ns : List ℕ) → IsForms s ns → room < length ns → StrictRefused s room NoRoom
 
 -- the numbers fill the front of the slice, and the rest is kept; or all is
 abbrev pub StrictRow : List ℕ → List ℕ → ReadList → List ℕ → Type 0
 StrictRow s old (L.Filled n) out =
     (length s ≤ blockLimit) × (ns : List ℕ) × IsForms s ns × (length ns ≤ length old) × (n .0 ≡ length ns) × (out ≡ ns ++ drop (length ns) old)
+StrictRow s old (L.Faulty why p) out = (length s ≤ blockLimit) × FirstFault s (p .0) why × (out ≡ old)
 StrictRow s old (L.Refused why) out = StrictRefused s (length old) why × (out ≡ old)
 
 -- A list of more numbers than the limit is refused by 7; any other is written as one number is, its forms one after another.

@@ -22,6 +22,7 @@ use Rattle.words.specs.Answer.{gives, refused, Why}
 use Rattle.words.specs.Lays.{LaysExactly}
 use Rattle.words.specs.Promise.{Numbered, HasRoom}
 use Rattle.words.specs.declared.Count.{Count}
+use Rattle.words.specs.declared.Place.{Place}
 use Rattle.words.specs.declared.Refusal.{Refusal}
 use Rattle.words.specs.declared.Written.{Written}
 use Rattle.words.specs.declared.Written.the-variants as W
@@ -49,20 +50,20 @@ abbrev pub Accepts : Kind → Type 0
 Accepts k = (s : List ℕ) (at : ℕ) (r : Reply k) → Bytes s → ReadsAs k s at r
     → (v : Value k) (n : Count) → (r ≡ number k v n) ↔ Begins (form k) (OfWidth k) s at v (n .0)
 
--- It refuses by a number exactly when the row of that number holds; no two rows hold, and none where it accepts; and one holds or
--- it accepts.
+-- It refuses by a number, with a place, exactly when the row of that number holds and was decided there; no two rows hold, nor one at two
+-- places, and none where it accepts; and one holds or it accepts.
 abbrev pub Refuses : Kind → Type 0
 Refuses k = (s : List ℕ) (at : ℕ) (r : Reply k) → Bytes s → ReadsAs k s at r
-    → (why : Refusal) → (r ≡ refuse k why) ↔ Row (width k) s at why
+    → (why : Refusal) (p : Place) → (r ≡ refuse k why p) ↔ Row (width k) s at (p .0) why
 
 abbrev pub Excludes : Kind → Type 0
 Excludes k = (s : List ℕ) (at : ℕ) →
-    ((a b : Refusal) → Row (width k) s at a → Row (width k) s at b → a ≡ b)
-    × ((a : Refusal) (v : Value k) (n : ℕ) → Row (width k) s at a → Begins (form k) (OfWidth k) s at v n → ⊥)
+    ((a b : Refusal) (p q : ℕ) → Row (width k) s at p a → Row (width k) s at q b → (a ≡ b) × (p ≡ q))
+    × ((a : Refusal) (p : ℕ) (v : Value k) (n : ℕ) → Row (width k) s at p a → Begins (form k) (OfWidth k) s at v n → ⊥)
 
 abbrev pub Exhausts : Kind → Type 0
 Exhausts k = (s : List ℕ) (at : ℕ) → Bytes s →
-    ((why : Refusal) × Row (width k) s at why) ⊎ ((v : Value k) × (n : ℕ) × Begins (form k) (OfWidth k) s at v n)
+    ((why : Refusal) × (p : ℕ) × Row (width k) s at p why) ⊎ ((v : Value k) × (n : ℕ) × Begins (form k) (OfWidth k) s at v n)
 
 -- A writer lays exactly the form of the number down.
 abbrev pub Writes : Kind → Type 0

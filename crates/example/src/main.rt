@@ -40,7 +40,7 @@ fn read_number(bytes: &[u8], place: Place) {
             say_number(v);
             say_count(count);
         }
-        ReadU64::Refused(refusal) => say_refused(refusal),
+        ReadU64::Refused(refusal, byte) => say_decided(refusal, byte),
     }
 }
 
@@ -48,7 +48,7 @@ fn read_number(bytes: &[u8], place: Place) {
 fn read_turn(bytes: &[u8], place: Place, thread: u8) {
     match sleb128::read_i64(bytes, place) {
         ReadI64::Number(quarters, _) => say_meaning(quarters, thread),
-        ReadI64::Refused(refusal) => say_refused(refusal),
+        ReadI64::Refused(refusal, byte) => say_decided(refusal, byte),
     }
 }
 
@@ -79,8 +79,8 @@ fn step_through(block: &[u8], from: Cursor) {
                 say_value(value);
                 cursor = next;
             }
-            Step::Gap(reason, _, next) => {
-                say_gap(reason);
+            Step::Gap(reason, byte, _, next) => {
+                say_gap(reason, byte);
                 cursor = next;
             }
             Step::Tail(count, _) => {
@@ -110,6 +110,7 @@ fn step_from(block: &[u8], place: Place) {
 fn read_all(block: &[u8], numbers: &mut [u64]) {
     match lists::read_strict(block, numbers) {
         ReadList::Filled(count) => say_numbers(count),
+        ReadList::Faulty(refusal, byte) => say_decided(refusal, byte),
         ReadList::Refused(refusal) => say_refused(refusal),
     }
 }
@@ -148,12 +149,23 @@ fn say_tail(count: Count) {
     say(b"tail ", count.0 as u64);
 }
 
-fn say_gap(reason: Refusal) {
+fn say_gap(reason: Refusal, byte: Place) {
     say(b"gap ", words::number(reason) as u64);
+    say_at(byte);
 }
 
 fn say_refused(refusal: Refusal) {
     say(b"refused ", words::number(refusal) as u64);
+}
+
+// The same, and the place of the byte that decided it.
+fn say_decided(refusal: Refusal, byte: Place) {
+    say_refused(refusal);
+    say_at(byte);
+}
+
+fn say_at(byte: Place) {
+    say(b"at ", byte.0 as u64);
 }
 
 fn show_writing(buffer: &mut [u8]) {

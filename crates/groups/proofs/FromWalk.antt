@@ -7,10 +7,12 @@
 --   Overrun s at                        from the place at on stand ten high bytes or more
 --   WalkTells s at r                    what a walk's answer r says: that the place is past the end, or one of the three
 --   walk-tells                          what a walk answers is so
---   overrun-large                       as many high bytes as the most: refusal 2
---   open-end                            only high bytes, fewer than the most: refusal 1
---   closed-large                        such a group's last byte is at the greatest length and not allowed: refusal 2
---   closed-many                         it isn't too large, and its last byte isn't the first and is one too many: refusal 3
+--   open-inside, overrun-inside         where the bytes that were walked stand: all of them, or the first ten,
+--   closed-inside                       or all through the last
+--   overrun-large                       as many high bytes as the most: refusal 2, decided by the last of them
+--   open-end                            only high bytes, fewer than the most: refusal 1, decided by the end of the bytes
+--   closed-large                        such a group's last byte is at the greatest length and not allowed: refusal 2, decided by that byte
+--   closed-many                         it isn't too large, and its last byte isn't the first and is one too many: refusal 3, decided by that byte
 --   closed-number                       it isn't too large and has none too many: the value and the count
 --   closed-digits                       its digits are sum + weight * last
 --   closed-below                        sum is below weight
@@ -22,9 +24,10 @@ use mathlib.Core.Bool.{true, false}
 use native.Mathlib.Nat.{mod-eq-of-lt}
 use native.Mathlib.Omega.{arith}
 use borrow.Author.Tests.{lt-ltb, le-ltb, le-leb, lt-leb, eq-eqb, ne-eqb}
-use lib.ListN.{length, getD, take, drop}
-use Rattle.words.specs.Answer.{gives, refused, by}
+use lib.ListN.{length, getD, take, drop, length-drop}
+use Rattle.words.specs.Answer.{gives, refused, by-at}
 use Rattle.words.proofs.Cases.{by-order}
+use Rattle.words.proofs.Moved.{same-place}
 use Rattle.groups.specs.Group.{run, digits}
 use Rattle.groups.specs.Width.{Width, read}
 use Rattle.groups.specs.Promise.{walking, walked, Walks}
@@ -88,39 +91,53 @@ module _ (s : List ℕ) (at : ℕ) where
   pub walk-tells : {r r′ : Walked} → Walks s at r → r ≡ r′ → WalkTells s at r′
   walk-tells p e = subst (WalkTells s at) (sym (p .is) ∙ e) told-all
 
+-- they stand in s
+module _ {s : List ℕ} {at : ℕ} where
+  pub open-inside : {high : ℕ} → Opening s at high → at + high ≡ length s
+  open-inside o = omega (arith, o .here, o .all, o .many, length-drop at s)
+
+  pub overrun-inside : Overrun s at → at + 10 ≤ length s
+  overrun-inside o = omega (arith, o .here, o .many, run-within (drop at s), length-drop at s)
+
+  pub closed-inside : {sum weight high last : ℕ} → Closing s at sum weight high last → at + high < length s
+  closed-inside c = omega (arith, c .here, c .ends, length-drop at s)
+
 module _ {A : Type 0} (w : Width A) (sound : Sound w) (s : List ℕ) (at : ℕ) where
   -- as many high bytes as the width has bytes: the one at the greatest length is not allowed
-  pub overrun-large : at ≤ length s → w .most ≤ run (drop at s) → read w s at ≡ refused (by 2)
+  pub overrun-large : at ≤ length s → w .most ≤ run (drop at s) → read w s at ≡ refused (by-at 2 (at + (w .most - 1)))
   overrun-large h m =
-      read-from w s at h ∙ row-large w (drop at s) (omega (arith, run-within (drop at s))) (omega arith)
-      (sound .low (getD (drop at s) (w .most - 1) 0) (in-run (drop at s) (w .most - 1) (omega (arith, sound .some))))
+      read-from w s at h (row-large w (drop at s) (omega (arith, run-within (drop at s))) (omega arith)
+      (sound .low (getD (drop at s) (w .most - 1) 0) (in-run (drop at s) (w .most - 1) (omega (arith, sound .some)))))
 
-  pub open-end : {high : ℕ} → Opening s at high → high < w .most → read w s at ≡ refused (by 1)
-  open-end o m = read-from w s at (o .here) ∙ row-end w (drop at s) (o .all) (omega (arith, o .many))
+  pub open-end : {high : ℕ} → Opening s at high → high < w .most → read w s at ≡ refused (by-at 1 (length s))
+  open-end o m =
+      read-from w s at (o .here) (row-end w (drop at s) (o .all) (omega (arith, o .many)))
+      ∙ same-place (omega (arith, o .here, length-drop at s))
 
   module _ {sum weight high last : ℕ} (c : Closing s at sum weight high last) where
-    pub closed-large : high + 1 ≡ w .most → w .allowed last ≡ false → read w s at ≡ refused (by 2)
+    pub closed-large : high + 1 ≡ w .most → w .allowed last ≡ false → read w s at ≡ refused (by-at 2 (at + high))
     closed-large e f =
         let i : w .most - 1 ≡ high = omega arith in
-        read-from w s at (c .here)
-        ∙ row-large w (drop at s) (omega (arith, c .ends)) (omega (arith, c .many)) (rw (i, ← (c .is)) f)
+        read-from w s at (c .here) (row-large w (drop at s) (omega (arith, c .ends)) (omega (arith, c .many)) (rw (i, ← (c .is)) f))
+        ∙ rw i
 
     module _ (fits : high + 1 ≤ w .most) (allowed : high + 1 ≡ w .most → w .allowed last ≡ true) where
       closing-allowed : run (drop at s) + 1 ≡ w .most → w .allowed (getD (drop at s) (run (drop at s)) 0) ≡ true
       closing-allowed e = rw (c .many, ← (c .is)) (allowed (rw (c .many) at e))
 
-      pub closed-many : 0 < high → w .extra (getD (drop at s) (high - 1) 0) last ≡ true → read w s at ≡ refused (by 3)
+      pub closed-many : 0 < high → w .extra (getD (drop at s) (high - 1) 0) last ≡ true → read w s at ≡ refused (by-at 3 (at + high))
       closed-many h e =
           read-from w s at (c .here)
-          ∙ row-many w (drop at s) (omega (arith, c .many, c .ends)) (omega (arith, c .many)) closing-allowed (omega (arith, c .many))
-          (rw (c .many, ← (c .is)) e)
+          (row-many w (drop at s) (omega (arith, c .many, c .ends)) (omega (arith, c .many)) closing-allowed (omega (arith, c .many))
+          (rw (c .many, ← (c .is)) e))
+          ∙ rw (c .many)
 
       pub closed-number : (0 < high → w .extra (getD (drop at s) (high - 1) 0) last ≡ false)
           → read w s at ≡ gives (w .value (take (high + 1) (drop at s)), high + 1)
       closed-number f =
           read-from w s at (c .here)
-          ∙ row-number w (drop at s) (omega (arith, c .many, c .ends)) (omega (arith, c .many)) closing-allowed
-          (λ h. rw (c .many, ← (c .is)) (f (rw (c .many) at h)))
+          (row-number w (drop at s) (omega (arith, c .many, c .ends)) (omega (arith, c .many)) closing-allowed
+          (λ h. rw (c .many, ← (c .is)) (f (rw (c .many) at h))))
           ∙ rw (c .many)
 
 module _ {s : List ℕ} {at sum weight high last : ℕ} (c : Closing s at sum weight high last) where

@@ -8,11 +8,12 @@
 --   first-not-many              it fails where the last byte is the first
 --   not-large                   row 2's test fails where the last byte comes within the greatest length, and is allowed if at that length
 --   when-large, when-many       what the tests of row 2 and of row 3 say of the bytes where they hold
---   row-end                     fewer bytes than the most, each of 128 or more: refusal 1
---   row-large                   a byte at the greatest length that is not allowed, all earlier ones 128 or more: refusal 2
---   row-many                    a number that ends, isn't too large, and has a last byte one too many: refusal 3
+--   row-end                     fewer bytes than the most, each of 128 or more: refusal 1, decided by their end
+--   row-large                   a byte at the greatest length that is not allowed, all earlier ones 128 or more: refusal 2, decided by that byte
+--   row-many                    a number that ends, isn't too large, and has a last byte one too many: refusal 3, decided by that byte
 --   row-number                  one that has none too many: the value, and the count of the bytes through the first below 128
---   read-past, read-from        reading from a place past the end is refusal 4, and from any other is reading the bytes from there on
+--   read-past                   reading from a place past the end is refusal 4, decided by that place
+--   read-from                   reading from any other is reading the bytes from there on, moved by that place
 --   reading-cases, read-cases   a thing from either case of a reading: a number, or one of the refusals
 --   due-kept, due-passed        `Due b a` where b is a, and where b is b′ and `Due b′ a`
 use Prim.Native.Nat.{ℕ, _+_, _-_, _≤_, _<_}
@@ -23,7 +24,7 @@ use native.Mathlib.Omega.{arith}
 use borrow.Author.Tests.{lt-ltb, le-ltb, le-leb, lt-leb, eq-eqb, ne-eqb, leb-true, ltb-true, not-true}
 use lib.Dec.{leb, ltb, eqb}
 use lib.ListN.{length, getD, take, drop}
-use Rattle.words.specs.Answer.{Answer, gives, refused, by, because}
+use Rattle.words.specs.Answer.{Answer, gives, refused, by-at, becauseAt, moved}
 use Rattle.words.specs.declared.Refusal.{Refusal}
 use Rattle.words.specs.declared.Refusal.the-variants.{End, Overflow, NotShortest, Place}
 use Rattle.words.proofs.Cases.{by-order, by-test, both-false, both-true}
@@ -91,13 +92,13 @@ module _ {A : Type 0} (w : Width A) where
       let p = both-true (ltb 0 (run l)) (w .extra (getD l (run l - 1) 0) (getD l (run l) 0)) e in (ltb-true 0 (run l) (p .0), p .1)
 
   -- row 1: fewer bytes than the most, and each is 128 or more
-  pub row-end : (l : List ℕ) → run l ≡ length l → run l < w .most → reading w l ≡ refused (by 1)
+  pub row-end : (l : List ℕ) → run l ≡ length l → run l < w .most → reading w l ≡ refused (by-at 1 (length l))
   unfolding reading
   row-end l e h = rw (out-when l e h)
 
   -- row 2: the byte at the greatest length is there, all earlier are 128 or more, and it is not allowed
   pub row-large : (l : List ℕ) → w .most ≤ length l → w .most ≤ run l + 1 → w .allowed (getD l (w .most - 1) 0) ≡ false
-      → reading w l ≡ refused (by 2)
+      → reading w l ≡ refused (by-at 2 (w .most - 1))
   unfolding reading
   row-large l there h e =
       let out : runsOut w l ≡ false = by-order (run l) (length l) (λ c. closed-not-out l c) (λ c. long-not-out l (omega (arith, run-within l))) in
@@ -106,7 +107,7 @@ module _ {A : Type 0} (w : Width A) where
   module _ (l : List ℕ) (ends : run l < length l) (fits : run l + 1 ≤ w .most)
       (last : run l + 1 ≡ w .most → w .allowed (getD l (run l) 0) ≡ true) where
     -- row 3: the number ends, not too large, and its last byte isn't the first and is one too many
-    pub row-many : 0 < run l → w .extra (getD l (run l - 1) 0) (getD l (run l) 0) ≡ true → reading w l ≡ refused (by 3)
+    pub row-many : 0 < run l → w .extra (getD l (run l - 1) 0) (getD l (run l) 0) ≡ true → reading w l ≡ refused (by-at 3 (run l))
     unfolding reading
     row-many h e = rw (closed-not-out l ends, not-large l fits last, many-when l h e)
 
@@ -116,27 +117,27 @@ module _ {A : Type 0} (w : Width A) where
     unfolding reading
     row-number f = rw (closed-not-out l ends, not-large l fits last, not-many l f)
 
-  pub read-past : (s : List ℕ) (at : ℕ) → length s < at → read w s at ≡ refused (by 4)
+  pub read-past : (s : List ℕ) (at : ℕ) → length s < at → read w s at ≡ refused (by-at 4 at)
   unfolding read
   read-past s at h = rw (lt-ltb (length s) at h)
 
-  pub read-from : (s : List ℕ) (at : ℕ) → at ≤ length s → read w s at ≡ reading w (drop at s)
+  pub read-from : (s : List ℕ) (at : ℕ) → at ≤ length s → {a : Answer (A × ℕ)} → reading w (drop at s) ≡ a → read w s at ≡ moved at a
   unfolding read
-  read-from s at h = rw (le-ltb (length s) at h)
+  read-from s at h e = rw (le-ltb (length s) at h, e)
 
 -- what a reading can say: a number, or a refusal that has a name
 module _ {A X : Type 0} (w : Width A) where
-  pub reading-cases : (g : List ℕ) → ((v : A) (n : ℕ) → reading w g ≡ gives (v, n) → X) → ((why : Refusal) → reading w g ≡ refused (because why) → X) → X
+  pub reading-cases : (g : List ℕ) → ((v : A) (n : ℕ) → reading w g ≡ gives (v, n) → X) → ((why : Refusal) (p : ℕ) → reading w g ≡ refused (becauseAt why p) → X) → X
   unfolding reading
   reading-cases g value fault =
-      by-test (runsOut w g) (λ o. fault End (rw o))
-      (λ o. by-test (tooLarge w g) (λ l. fault Overflow (rw (o, l)))
-      (λ l. by-test (tooMany w g) (λ m. fault NotShortest (rw (o, l, m))) (λ m. value (w .value (take (run g + 1) g)) (run g + 1) (rw (o, l, m)))))
+      by-test (runsOut w g) (λ o. fault End (length g) (rw o))
+      (λ o. by-test (tooLarge w g) (λ l. fault Overflow (w .most - 1) (rw (o, l)))
+      (λ l. by-test (tooMany w g) (λ m. fault NotShortest (run g) (rw (o, l, m))) (λ m. value (w .value (take (run g + 1) g)) (run g + 1) (rw (o, l, m)))))
 
-  pub read-cases : (s : List ℕ) (at : ℕ) → ((v : A) (n : ℕ) → read w s at ≡ gives (v, n) → X) → ((why : Refusal) → read w s at ≡ refused (because why) → X) → X
+  pub read-cases : (s : List ℕ) (at : ℕ) → ((v : A) (n : ℕ) → read w s at ≡ gives (v, n) → X) → ((why : Refusal) (p : ℕ) → read w s at ≡ refused (becauseAt why p) → X) → X
   read-cases s at value fault =
-      by-order (length s) at (λ h. fault Place (read-past w s at h))
-      (λ h. reading-cases (drop at s) (λ v n e. value v n (read-from w s at h ∙ e)) (λ why e. fault why (read-from w s at h ∙ e)))
+      by-order (length s) at (λ h. fault Place at (read-past w s at h))
+      (λ h. reading-cases (drop at s) (λ v n e. value v n (read-from w s at h e)) (λ why p e. fault why (at + p) (read-from w s at h e)))
 
 -- an answer keeps a promise where what is promised is the same, and so does one that keeps another promise of the same
 module _ {A : Type 0} {b : Answer A} where

@@ -19,8 +19,9 @@ use native.Mathlib.Numerals.{add-one}
 use native.Mathlib.Omega.{arith}
 use lib.ListN.{length, getD, take, drop, take-append-drop, length-append, List·getD-append}
 use lib.Seq.{take-append-seam, getD-drop}
-use Rattle.words.specs.Answer.{pick, Answer, gives, refused, by, Why}
+use Rattle.words.specs.Answer.{pick, Answer, gives, refused, by-at, Why}
 use Rattle.words.proofs.Cases.{by-order, clash}
+use Rattle.words.proofs.Moved.{moved-gave}
 use Rattle.groups.specs.Begins.{Begins}
 use Rattle.groups.specs.Group.{Bytes, run, Group, one, more}
 use Rattle.groups.specs.Width.{Width, runsOut, tooLarge, tooMany, reading, read}
@@ -67,7 +68,8 @@ module _ {A : Type 0} (w : Width A) {g : List ℕ} (rest : List ℕ) (r : Group 
   unfolding tooMany
   many-behind = rw (run-behind rest r, same-byte (run g - 1) (omega arith), same-byte (run g) (omega arith))
 
-  pub reading-behind : reading w (g ++ rest) ≡ pick (tooLarge w g) (refused (by 2)) (pick (tooMany w g) (refused (by 3)) (gives (w .value g, length g)))
+  pub reading-behind : reading w (g ++ rest)
+      ≡ pick (tooLarge w g) (refused (by-at 2 (w .most - 1))) (pick (tooMany w g) (refused (by-at 3 (run g))) (gives (w .value g, length g)))
   unfolding reading
   reading-behind =
       let n : run g + 1 ≡ length g = omega (arith, group-length r) in
@@ -86,8 +88,8 @@ paired {A} {a} {b} {m} {n} e =
 
 module _ {A : Type 0} (w : Width A) (s : List ℕ) (at : ℕ) where
   pub stands-read : {v : A} {n : ℕ} → Stands w s at v n → read w s at ≡ gives (v, n)
-  stands-read g =
-      read-from w s at (g .here) ∙ rw (g .begins, reading-behind w (g .rest) (g .is-group), g .not-large, g .not-many, g .value, g .count)
+  stands-read {v} {n} g =
+      read-from w s at (g .here) {a = gives (v, n)} (rw (g .begins, reading-behind w (g .rest) (g .is-group), g .not-large, g .not-many, g .value, g .count))
 
   module _ (sound : Sound w) (bytes : Bytes s) {v : A} {n : ℕ} (e : read w s at ≡ gives (v, n)) where
     apart : {X : Type 0} {k : Why} → read w s at ≡ refused k → X
@@ -101,7 +103,7 @@ module _ {A : Type 0} (w : Width A) (s : List ℕ) (at : ℕ) where
         by-order (run (drop at s)) (length (drop at s)) (λ l. l)
         (λ l.
         by-order (run (drop at s)) (w .most)
-        (λ m. apart (read-from w s at stands-here ∙ row-end w (drop at s) (omega (arith, run-within (drop at s))) m))
+        (λ m. apart (read-from w s at stands-here (row-end w (drop at s) (omega (arith, run-within (drop at s))) m)))
         (λ m. apart (overrun-large w sound s at stands-here m)))
 
     bytes-from : Bytes (drop at s)
@@ -112,9 +114,10 @@ module _ {A : Type 0} (w : Width A) (s : List ℕ) (at : ℕ) where
         let l = drop at s in
         let split : l ≡ take (run l + 1) l ++ drop (run l + 1) l = sym (take-append-drop (run l + 1) l) in
         let r = front-group l bytes-from stands-closed in
-        let a = accept (tooLarge w (take (run l + 1) l)) (by 2) _
-        (sym (reading-behind w (drop (run l + 1) l) r) ∙ sym (ap (reading w) split) ∙ sym (read-from w s at stands-here) ∙ e) in
-        let b = accept (tooMany w (take (run l + 1) l)) (by 3) _ (a .1) in
+        let given : reading w l ≡ gives (v, n) = moved-gave at (reading w l) (sym (read-from w s at stands-here refl) ∙ e) in
+        let a = accept (tooLarge w (take (run l + 1) l)) _ _
+        (sym (reading-behind w (drop (run l + 1) l) r) ∙ sym (ap (reading w) split) ∙ given) in
+        let b = accept (tooMany w (take (run l + 1) l)) _ _ (a .1) in
         let p = paired (b .1) in
         record {
           here = stands-here;
@@ -162,7 +165,7 @@ count-within w {n = n} sound g =
 module _ {A : Type 0} (w : Width A) (l : List ℕ) {v : A} {n : ℕ} (e : reading w l ≡ gives (v, n)) where
   reading-gave : (v ≡ w .value (take (run l + 1) l)) × (n ≡ run l + 1)
   unfolding reading
-  reading-gave = paired (accept (tooMany w l) (by 3) _ (accept (tooLarge w l) (by 2) _ (accept (runsOut w l) (by 1) _ e .1) .1) .1)
+  reading-gave = paired (accept (tooMany w l) _ _ (accept (tooLarge w l) _ _ (accept (runsOut w l) _ _ e .1) .1) .1)
 
   pub reading-value : v ≡ w .value (take (run l + 1) l)
   reading-value = reading-gave .0

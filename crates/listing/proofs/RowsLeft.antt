@@ -12,7 +12,8 @@ use mathlib.Core.Logic.{_⊎_, inl, inr, ⊎-elim}
 use mathlib.Core.List.{List, [], _∷_, _++_, append-nil}
 use native.Mathlib.Omega.{arith}
 use lib.ListN.{length, drop, length-drop, drop-of-length-le}
-use Rattle.words.specs.Answer.{Answer, gives, refused}
+use Rattle.words.specs.Answer.{Answer, gives, refused, moved}
+use Rattle.words.proofs.Moved.{number-kept}
 use Rattle.texts.specs.Texts.{ascii}
 use Rattle.groups.specs.Width.{reading}
 use Rattle.uleb128.specs.Unsigned.{u64}
@@ -58,9 +59,10 @@ group-left s p g k = rw (group-cut k)
 
 -- a group's line, whether it is a number or not
 group-rowing : (s : List ℕ) (p n : ℕ) (a : Answer (ℕ × ℕ)) → Here s (p + n) → 0 < n → p + n ≤ length s → left s p ≡ rowOf p a n ++ left s (p + n)
-    → Rowing s p (lineSaid (says (valued unsigned a) n p))
+    → Rowing s p (lineSaid (says (moved p (valued unsigned a)) n p))
 group-rowing s p n (gives v) h i j e = more (ascii "number") (v .0) n (record { here = h; some = i; within = j; goes-on = e })
-group-rowing s p n (refused k) h i j e = more (fault k) n n (record { here = h; some = i; within = j; goes-on = e })
+group-rowing s p n (refused k) h i j e =
+    rw (number-kept p k) (more (fault k) n n (record { here = h; some = i; within = j; goes-on = e }))
 
 at-start : (s : List ℕ) (p : ℕ) → length s ≤ blockLimit → Start s p → AtStart s p → Rowing s p (lineSaid (stepping Unsigned s p))
 at-start s p short st (the-end e) = rw (end-says s p e Unsigned short) (over (end-left s p e))

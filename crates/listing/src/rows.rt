@@ -53,7 +53,7 @@ fn row_at(block: &[u8], at: usize) -> Row
             Value::Unsigned(v) => Row::Line(What::Number, v, count),
             Value::Signed(_) => Row::Finished,
         },
-        Step::Gap(refusal, count, _) => {
+        Step::Gap(refusal, _, count, _) => {
             let length = count.0;
             let what = fault_of(refusal);
             Row::Line(what, length as u64, count)

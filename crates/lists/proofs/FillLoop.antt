@@ -51,8 +51,8 @@ filling-room (refused k) old h = refl
 pub record Poured (s old out : List ℕ) (at count : ℕ) : Type 0 where
   pub counts : Counted s at count
   pub kept : length out ≡ length old
-  pub enough : Room (numbers (drop at s)) count (length old)
-  pub left : poured (numbers (drop at s)) out count ≡ poured (numbers s) old 0
+  pub enough : Room (numbers at (drop at s)) count (length old)
+  pub left : poured (numbers at (drop at s)) out count ≡ poured (numbers 0 s) old 0
 
 module _ (s old : List ℕ) (fits : HoldsAll s (length old)) where
   pub none-poured : Poured s old old 0 0
@@ -60,22 +60,22 @@ module _ (s old : List ℕ) (fits : HoldsAll s (length old)) where
 
   module _ {out : List ℕ} {at count : ℕ} (g : Poured s old out at count) where
     pub one-fits : {v q : ℕ} → Behind s at v q → count < length out
-    one-fits {v} {q} b = rw (g .kept) (room-for-one v (numbers (drop q s)) count (length old) (rw (b .left) at (g .enough)))
+    one-fits {v} {q} b = rw (g .kept) (room-for-one v (numbers q (drop q s)) count (length old) (rw (b .left) at (g .enough)))
 
     pub one-poured : {v q : ℕ} → Behind s at v q → Poured s old (set out count v) q (count + 1)
     one-poured {v} {q} b =
-        let r : Room (numberAhead v (numbers (drop q s))) count (length old) = rw (b .left) at (g .enough) in
+        let r : Room (numberAhead v (numbers q (drop q s))) count (length old) = rw (b .left) at (g .enough) in
         record {
           counts = one-counted s (g .counts) b;
           kept = length-set out count v ∙ g .kept;
-          enough = room-behind v (numbers (drop q s)) count (length old) r;
-          left = poured-one v (numbers (drop q s)) out count (length old) r ∙ (rw (b .left) at (g .left));
+          enough = room-behind v (numbers q (drop q s)) count (length old) r;
+          left = poured-one v (numbers q (drop q s)) out count (length old) r ∙ (rw (b .left) at (g .left));
         }
 
-    pub no-fault : {X : Type 0} {k : Why} → numbers (drop at s) ≡ refused k → X
+    pub no-fault : {X : Type 0} {k : Why} → numbers at (drop at s) ≡ refused k → X
     no-fault {k = k} e = let r : Room (refused k) count (length old) = rw e at (g .enough) in absurd r
 
     pub all-poured : length s ≤ at → (n : Numbers) → n .0 ≡ count → ReadsStrict s old (Filled n) out
     all-poured h n e =
-        strict-answer s old (fits .short) (ap gives e ∙ all-counted s (g .counts) h ∙ counted-room (numbers s) (length old) (fits .enough))
-        ((rw (no-numbers-left s (g .counts) h) at (g .left)) ∙ filling-room (numbers s) old (fits .enough))
+        strict-answer s old (fits .short) (ap gives e ∙ all-counted s (g .counts) h ∙ counted-room (numbers 0 s) (length old) (fits .enough))
+        ((rw (no-numbers-left s (g .counts) h) at (g .left)) ∙ filling-room (numbers 0 s) old (fits .enough))

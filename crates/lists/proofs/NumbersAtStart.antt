@@ -2,7 +2,7 @@
 --
 --   Possible x      x is an unsigned number, a gap or a tail
 --   pass-possible   a step by the unsigned rule says one of these
---   pass-tail       where it says a tail, the first fault of what is left is 1
+--   pass-tail       where it says a tail, the first fault of what is left is 1, decided by the block's end
 --   pass-gap        where it says a gap, the first fault of what is left is the gap's
 --   pass-number     where it says a number, that is the first of what is left, and a start stands behind it
 use Prim.Native.Nat.{ℕ, _+_}
@@ -10,7 +10,8 @@ use mathlib.Core.Path.{_≡_, refl, _∙_}
 use mathlib.Core.List.{List}
 use native.Mathlib.Omega.{arith}
 use lib.ListN.{length, drop, length-drop}
-use Rattle.words.specs.Answer.{Answer, gives, refused, by, Why}
+use Rattle.words.specs.Answer.{Answer, gives, refused, by-at, Why, movedWhy, moved}
+use Rattle.words.proofs.Moved.{same-place}
 use Rattle.groups.specs.Width.{reading}
 use Rattle.groups.proofs.Run.{high-full}
 use Rattle.uleb128.specs.Unsigned.{u64}
@@ -23,15 +24,15 @@ use Rattle.lists.specs.Inner.{StartsBefore, Behind, numberAhead}
 use Rattle.lists.proofs.NumbersInFront.{numbers-tail}
 
 -- what a group's step says, taken apart by its case
-said-number : (a : Answer (ℕ × ℕ)) (n p : ℕ) {v m q : ℕ} → number (unsigned v) m q ≡ says (valued unsigned a) n p → ((i : ℕ) × (a ≡ gives (v, i))) × (q ≡ p + n)
+said-number : (a : Answer (ℕ × ℕ)) (n p : ℕ) {v m q : ℕ} → number (unsigned v) m q ≡ says (moved p (valued unsigned a)) n p → ((i : ℕ) × (a ≡ gives (v, i))) × (q ≡ p + n)
 said-number (gives x) n p {v} {m} {q} e = let f : v ≡ x .0 = cc in let h : q ≡ p + n = cc in ((x .1, rw f), h)
 said-number (refused k) n p e = let z : _≡_ {A = ℕ} 0 1 = cc in absurd (omega arith)
 
-said-gap : (a : Answer (ℕ × ℕ)) (n p : ℕ) {k : Why} {m q : ℕ} → gap k m q ≡ says (valued unsigned a) n p → a ≡ refused k
+said-gap : (a : Answer (ℕ × ℕ)) (n p : ℕ) {k : Why} {m q : ℕ} → gap k m q ≡ says (moved p (valued unsigned a)) n p → moved p a ≡ refused k
 said-gap (gives x) n p e = let z : _≡_ {A = ℕ} 0 1 = cc in absurd (omega arith)
-said-gap (refused k) n p {k = j} e = let f : j ≡ k = cc in rw f
+said-gap (refused k) n p {k = j} e = let f : j ≡ movedWhy p k = cc in rw f
 
-said-no-tail : {X : Type 0} (a : Answer (ℕ × ℕ)) (n p : ℕ) {m q : ℕ} → tail m q ≡ says (valued unsigned a) n p → X
+said-no-tail : {X : Type 0} (a : Answer (ℕ × ℕ)) (n p : ℕ) {m q : ℕ} → tail m q ≡ says (moved p (valued unsigned a)) n p → X
 said-no-tail (gives x) n p e = let z : _≡_ {A = ℕ} 0 1 = cc in absurd (omega arith)
 said-no-tail (refused k) n p e = let z : _≡_ {A = ℕ} 0 1 = cc in absurd (omega arith)
 
@@ -48,7 +49,7 @@ Possible (tail m q) = Unit
 Possible (finished q) = ⊥
 Possible (refuses k) = ⊥
 
-said-possible : (a : Answer (ℕ × ℕ)) (n p : ℕ) → Possible (says (valued unsigned a) n p)
+said-possible : (a : Answer (ℕ × ℕ)) (n p : ℕ) → Possible (says (moved p (valued unsigned a)) n p)
 said-possible (gives x) n p = tt
 said-possible (refused k) n p = tt
 
@@ -65,22 +66,24 @@ module _ (s : List ℕ) (p : ℕ) (here : StartsBefore s p) where
   at-tail : TailAt s p → stepping Unsigned s p ≡ tail (length (drop p s)) p
   at-tail k = tail-says k Unsigned (here .short)
 
-  at-group : (g : List ℕ) → GroupHere s p g → stepping Unsigned s p ≡ says (valued unsigned (reading u64 g)) (length g) p
+  at-group : (g : List ℕ) → GroupHere s p g → stepping Unsigned s p ≡ says (moved p (valued unsigned (reading u64 g))) (length g) p
   at-group g k = group-says k Unsigned (here .short) (here .start)
 
   pub pass-possible : {x : Stepped} → x ≡ stepping Unsigned s p → Possible x
   pass-possible e = by-step (λ k. rw (e, at-tail k) tt) (λ g k. rw (e, at-group g k) (said-possible (reading u64 g) (length g) p))
 
-  pub pass-tail : {m q : ℕ} → tail m q ≡ stepping Unsigned s p → numbers (drop p s) ≡ refused (by 1)
+  pub pass-tail : {m q : ℕ} → tail m q ≡ stepping Unsigned s p → numbers p (drop p s) ≡ refused (by-at 1 (length s))
   pass-tail e =
-      by-step (λ k. numbers-tail (drop p s) (high-full (drop p s) (k .high)) (omega (arith, length-drop p s, here .before-end)))
+      by-step
+      (λ k. numbers-tail p (drop p s) (high-full (drop p s) (k .high)) (omega (arith, length-drop p s, here .before-end))
+      ∙ same-place (omega (arith, length-drop p s, here .before-end)))
       (λ g k. said-no-tail (reading u64 g) (length g) p (e ∙ at-group g k))
 
-  numbers-here : (g : List ℕ) → GroupHere s p g → numbers (drop p s) ≡ joined (reading u64 g) (numbers (drop (p + length g) s))
+  numbers-here : (g : List ℕ) → GroupHere s p g → numbers p (drop p s) ≡ joined (moved p (reading u64 g)) (numbers (p + length g) (drop (p + length g) s))
   unfolding numbersOf
   numbers-here g k = rw (group-cut k)
 
-  pub pass-gap : {k : Why} {m q : ℕ} → gap k m q ≡ stepping Unsigned s p → numbers (drop p s) ≡ refused k
+  pub pass-gap : {k : Why} {m q : ℕ} → gap k m q ≡ stepping Unsigned s p → numbers p (drop p s) ≡ refused k
   pass-gap {k} {m} {q} e =
       by-step (λ t. let f : gap k m q ≡ tail (length (drop p s)) p = e ∙ at-tail t in let z : _≡_ {A = ℕ} 0 1 = cc in absurd (omega arith))
       (λ g h. numbers-here g h ∙ rw (said-gap (reading u64 g) (length g) p (e ∙ at-group g h)))
@@ -92,7 +95,7 @@ module _ (s : List ℕ) (p : ℕ) (here : StartsBefore s p) where
       rw (d .1) (record {
         further = omega (arith, here-long k);
         start = next-start k;
-        left = numbers-here g k ∙ rw (d .0 .1) (joined-ahead v (d .0 .0) (numbers (drop (p + length g) s)));
+        left = numbers-here g k ∙ rw (d .0 .1) (joined-ahead v (d .0 .0) (numbers (p + length g) (drop (p + length g) s)));
       })
 
   pub pass-number : {v m q : ℕ} → number (unsigned v) m q ≡ stepping Unsigned s p → Behind s p v q

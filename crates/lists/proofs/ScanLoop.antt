@@ -37,7 +37,7 @@ pub record Counted (s : List ℕ) (at count : ℕ) : Type 0 where
   pub short : length s ≤ blockLimit
   pub start : Start s at
   pub few : count ≤ at
-  pub left : many (numbers s) ≡ added count (many (numbers (drop at s)))
+  pub left : many (numbers 0 s) ≡ added count (many (numbers at (drop at s)))
 
 module _ (s : List ℕ) where
   pub none-counted : length s ≤ blockLimit → Counted s 0 0
@@ -46,7 +46,7 @@ module _ (s : List ℕ) where
         short = h;
         start = front-start s;
         few = omega arith;
-        left = added-none (many (numbers s));
+        left = added-none (many (numbers 0 s));
       }
 
   module _ {at count : ℕ} (g : Counted s at count) where
@@ -59,14 +59,14 @@ module _ (s : List ℕ) where
           short = g .short;
           start = b .start;
           few = omega (arith, g .few, b .further);
-          left = g .left ∙ rw (b .left) (added-one count v (numbers (drop q s)));
+          left = g .left ∙ rw (b .left) (added-one count v (numbers q (drop q s)));
         }
 
-    pub fault-found : {k : Why} → numbers (drop at s) ≡ refused k → refused k ≡ many (numbers s)
+    pub fault-found : {k : Why} → numbers at (drop at s) ≡ refused k → refused k ≡ many (numbers 0 s)
     fault-found e = sym (g .left ∙ rw e)
 
-    pub no-numbers-left : length s ≤ at → numbers (drop at s) ≡ gives []
-    no-numbers-left h = numbers-none (drop at s) (omega (arith, length-drop at s))
+    pub no-numbers-left : length s ≤ at → numbers at (drop at s) ≡ gives []
+    no-numbers-left h = numbers-none at (drop at s) (omega (arith, length-drop at s))
 
-    pub all-counted : length s ≤ at → gives count ≡ many (numbers s)
+    pub all-counted : length s ≤ at → gives count ≡ many (numbers 0 s)
     all-counted h = sym (g .left ∙ rw (no-numbers-left h) (ap gives (omega arith)))

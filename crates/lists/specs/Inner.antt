@@ -15,7 +15,7 @@ use mathlib.Core.List.{List, _∷_}
 use mathlib.Core.Path.{_≡_}
 use lib.ListN.{length, drop}
 use lib.Seq.{sets}
-use Rattle.words.specs.Answer.{Answer, gives, refused, because}
+use Rattle.words.specs.Answer.{Answer, gives, refused, becauseAt}
 use Rattle.blocks.specs.Block.{blockLimit}
 use Rattle.blocks.specs.GroupsAndTail.{Start}
 use Rattle.lists.specs.Strict.{numbers}
@@ -38,7 +38,7 @@ Room (refused k) i room = ⊥
 
 pub record HoldsAll (s : List ℕ) (room : ℕ) : Type 0 where
   pub short : length s ≤ blockLimit
-  pub enough : Room (numbers s) 0 room
+  pub enough : Room (numbers 0 s) 0 room
 
 pub record StartsBefore (s : List ℕ) (p : ℕ) : Type 0 where
   pub short : length s ≤ blockLimit
@@ -48,18 +48,18 @@ pub record StartsBefore (s : List ℕ) (p : ℕ) : Type 0 where
 pub record Behind (s : List ℕ) (p v q : ℕ) : Type 0 where
   pub further : p < q
   pub start : Start s q
-  pub left : numbers (drop p s) ≡ numberAhead v (numbers (drop q s))
+  pub left : numbers p (drop p s) ≡ numberAhead v (numbers q (drop q s))
 
 abbrev pub Passes : List ℕ → ℕ → Passed → Type 0
 Passes s p (P.Number v q) = Behind s p v q
-Passes s p (P.Fault why) = numbers (drop p s) ≡ refused (because why)
+Passes s p (P.Fault why at) = numbers p (drop p s) ≡ refused (becauseAt why (at .0))
 
 abbrev pub meansScanned : Scanned → Answer ℕ
 meansScanned (C.Count n) = gives n
-meansScanned (C.Fault why) = refused (because why)
+meansScanned (C.Fault why at) = refused (becauseAt why (at .0))
 
 pub record Scans (s : List ℕ) (r : Scanned) : Type 0 where
-  pub is : meansScanned r ≡ many (numbers s)
+  pub is : meansScanned r ≡ many (numbers 0 s)
 
 pub record Puts (bytes s : List ℕ) (at r : ℕ) (out : List ℕ) : Type 0 where
   pub behind : r ≡ at + length bytes

@@ -8,13 +8,13 @@ use mathlib.Core.List.{List}
 use mathlib.Core.Path.{_≡_}
 use lib.Dec.{ltb}
 use lib.ListN.{length}
-use Rattle.words.specs.Answer.{pick, refused, meansWritten, Answer, gives, by, because}
+use Rattle.words.specs.Answer.{pick, refused, meansWritten, Answer, gives, by, because, becauseAt}
 use Rattle.words.specs.Lays.{writing, laid}
 use Rattle.words.specs.declared.Written.{Written}
 use Rattle.lists.specs.Lists.{forms, listLimit}
 use Rattle.lists.specs.Strict.{strict, filled}
 use Rattle.lists.specs.declared.ReadList.{ReadList}
-use Rattle.lists.specs.declared.ReadList.the-variants.{Filled, Refused}
+use Rattle.lists.specs.declared.ReadList.the-variants.{Filled, Faulty, Refused}
 
 pub record WritesList (ns s : List ℕ) (at : ℕ) (r : Written) (out : List ℕ) : Type 0 where
   pub answer : meansWritten r ≡ pick (ltb listLimit (length ns)) (refused (by 7)) (writing s at (length (forms ns)))
@@ -22,6 +22,7 @@ pub record WritesList (ns s : List ℕ) (at : ℕ) (r : Written) (out : List ℕ
 
 abbrev pub meansReadList : ReadList → Answer ℕ
 meansReadList (Filled n) = gives (n .0)
+meansReadList (Faulty r at) = refused (becauseAt r (at .0))
 meansReadList (Refused r) = refused (because r)
 
 pub record ReadsStrict (s old : List ℕ) (r : ReadList) (out : List ℕ) : Type 0 where

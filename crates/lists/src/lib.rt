@@ -3,14 +3,17 @@ mod reading;
 mod writing;
 
 pub use reading::read_strict;
+use words::Place;
 use words::Refusal;
 pub use writing::write_list;
 
 // A count of numbers: neither a place nor a count of bytes.
 pub struct Numbers(pub usize);
 
-// What strict reading answers: how many numbers it put to the front of the slice, or why none.
+// What strict reading answers: how many numbers it put to the front of the slice; or the block's first fault, with the place of the
+// byte that decided it; or why none else.
 pub enum ReadList {
     Filled(Numbers),
+    Faulty(Refusal, Place),
     Refused(Refusal),
 }

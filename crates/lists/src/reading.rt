@@ -14,16 +14,16 @@ ghost use Rattle.blocks.specs.Block.{blockLimit};
 ghost use Rattle.lists.specs.Inner.{StartsBefore, Passes, Scans, HoldsAll};
 ghost use Rattle.lists.specs.Promise.{ReadsStrict};
 
-// A group's number with the place behind it, or the fault there.
+// A group's number with the place behind it, or the fault there with the place of the byte that decided it.
 enum Passed {
     Number(u64, usize),
-    Fault(Refusal),
+    Fault(Refusal, Place),
 }
 
 // How many numbers a block has, or its first fault.
 enum Scanned {
     Count(usize),
-    Fault(Refusal),
+    Fault(Refusal, Place),
 }
 
 // What stands at a start before the block's end. From there no step by the unsigned rule says a signed number, that it is
@@ -39,13 +39,13 @@ fn pass(block: &[u8], at: usize) -> Passed
             let behind = place.0;
             match value {
                 Value::Unsigned(v) => Passed::Number(v, behind),
-                Value::Signed(_) => Passed::Fault(Refusal::Overflow),
+                Value::Signed(_) => Passed::Fault(Refusal::Overflow, Place(at)),
             }
         }
-        Step::Gap(refusal, _, _) => Passed::Fault(refusal),
-        Step::Tail(_, _) => Passed::Fault(Refusal::End),
-        Step::Finished(_) => Passed::Fault(Refusal::End),
-        Step::Refused(refusal) => Passed::Fault(refusal),
+        Step::Gap(refusal, place, _, _) => Passed::Fault(refusal, place),
+        Step::Tail(_, _) => Passed::Fault(Refusal::End, Place(block.len())),
+        Step::Finished(_) => Passed::Fault(Refusal::End, Place(at)),
+        Step::Refused(refusal) => Passed::Fault(refusal, Place(at)),
     }
 }
 
@@ -62,8 +62,8 @@ fn scan(block: &[u8]) -> Scanned
                 at = behind;
                 count += 1;
             }
-            Passed::Fault(refusal) => {
-                return Scanned::Fault(refusal);
+            Passed::Fault(refusal, place) => {
+                return Scanned::Fault(refusal, place);
             }
         }
     }
@@ -84,8 +84,8 @@ fn fill(block: &[u8], numbers: &mut [u64]) -> ReadList
                 at = behind;
                 count += 1;
             }
-            Passed::Fault(refusal) => {
-                return ReadList::Refused(refusal);
+            Passed::Fault(refusal, place) => {
+                return ReadList::Faulty(refusal, place);
             }
         }
     }
@@ -93,7 +93,7 @@ fn fill(block: &[u8], numbers: &mut [u64]) -> ReadList
 }
 
 // Fills the front of the slice with the block's numbers, if every group is one and there is no tail: else 7, the first fault by
-// place (2 or 3 in a group, 1 for a tail), or 5; then the slice is as it was.
+// place (2 or 3 in a group, 1 for a tail, decided by the block's end), or 5; then the slice is as it was.
 pub fn read_strict(block: &[u8], numbers: &mut [u64]) -> ReadList
     ensures { λ r. ⌜ ReadsStrict (now (block .entry)) (now (numbers .entry)) r (now (numbers .exit)) ⌝ }
 {
@@ -107,6 +107,6 @@ pub fn read_strict(block: &[u8], numbers: &mut [u64]) -> ReadList
             }
             fill(block, numbers)
         }
-        Scanned::Fault(refusal) => ReadList::Refused(refusal),
+        Scanned::Fault(refusal, place) => ReadList::Faulty(refusal, place),
     }
 }

@@ -121,25 +121,25 @@ module _ {s : List ℕ} {at sum weight high last : ℕ} (c : Closing s at sum we
           let n = number (λ q. allowed-last z) g in
           rw (e, mul-zero weight, add-zero (lowOf b weight sum)) at n
 
-      zero-reads : read i64 s at ≡ closing b (lowOf b weight sum) weight high (say b last)
+      zero-reads : read i64 s at ≡ closing b (lowOf b weight sum) weight high (say b last) (at + high)
       zero-reads =
-          by-order high 1 (λ o. low-number (λ h. absurd (omega arith)) ∙ sym (closing-one _ _ _ _ _ z o))
+          by-order high 1 (λ o. low-number (λ h. absurd (omega arith)) ∙ sym (closing-one _ _ _ _ _ _ z o))
           (λ m.
           by-order (say b (getD (drop at s) (high - 1) 0 % 128)) 64
           (λ l.
           closed-many i64 sound s at c (omega (arith, c .few)) (λ q. allowed-last z) m (extra-last m (omega arith))
-          ∙ sym (closing-many _ _ _ _ _ z m (twice-below b m l)))
-          (λ l. low-number (λ h. needed-last (omega arith)) ∙ sym (closing-last _ _ _ _ _ z m (twice-above b m l))))
+          ∙ sym (closing-many _ _ _ _ _ _ z m (twice-below b m l)))
+          (λ l. low-number (λ h. needed-last (omega arith)) ∙ sym (closing-last _ _ _ _ _ _ z m (twice-above b m l))))
 
-    some-reads : 0 < say b last → read i64 s at ≡ closing b (lowOf b weight sum) weight high (say b last)
+    some-reads : 0 < say b last → read i64 s at ≡ closing b (lowOf b weight sum) weight high (say b last) (at + high)
     some-reads z =
         by-order 8 high
         (λ l.
         closed-large i64 sound s at c (omega (arith, c .few)) (allowed b last (c .low) small ∙ lt-leb (say b last) 0 z)
-        ∙ sym (closing-large _ _ _ _ _ z l))
-        (λ l. number (λ q. absurd (omega arith)) (λ h. needed-last (omega arith)) ∙ sym (closing-number _ _ _ _ _ z l))
+        ∙ sym (closing-large _ _ _ _ _ _ z l))
+        (λ l. number (λ q. absurd (omega arith)) (λ h. needed-last (omega arith)) ∙ sym (closing-number _ _ _ _ _ _ z l))
 
-    pub closed-reads : read i64 s at ≡ closing b (lowOf b weight sum) weight high (say b last)
+    pub closed-reads : read i64 s at ≡ closing b (lowOf b weight sum) weight high (say b last) (at + high)
     closed-reads = by-order (say b last) 1 zero-reads some-reads
 
   -- what `closed` is asked, and what its answer says, at either sign
@@ -149,10 +149,10 @@ module _ {s : List ℕ} {at sum weight high last : ℕ} (c : Closing s at sum we
   pub closes-below : 64 ≤ last → Closes (weight - 1 - sum) weight high (127 - last)
   closes-below h = record { under = omega (arith, closed-below c); weighs = c .weighs; few = c .few; small = omega arith }
 
-  pub reads-above : last < 64 → read i64 s at ≡ closing false sum weight high last
+  pub reads-above : last < 64 → read i64 s at ≡ closing false sum weight high last (at + high)
   unfolding lowOf
   reads-above h = closed-reads false h
 
-  pub reads-below : 64 ≤ last → read i64 s at ≡ closing true (weight - 1 - sum) weight high (127 - last)
+  pub reads-below : 64 ≤ last → read i64 s at ≡ closing true (weight - 1 - sum) weight high (127 - last) (at + high)
   unfolding lowOf
   reads-below h = closed-reads true (omega arith)

@@ -22,15 +22,16 @@ fn signed(m: u64, below: bool) -> i64
     if below { !v } else { v }
 }
 
-// The number of a group whose high bytes say low and whose last byte says bits: below zero, both are complements.
-fn closed(low: u64, weight: u64, high: usize, bits: u8, below: bool) -> ReadI64
+// The number of a group whose high bytes say low and whose last byte says bits: below zero, both are complements. Where it is
+// refused, that byte decides it.
+fn closed(low: u64, weight: u64, high: usize, bits: u8, below: bool, place: Place) -> ReadI64
     requires { ⌜ Closes low weight high bits ⌝ }
-    ensures { λ r. ⌜ Due (closing below low weight high bits) (meansReadI64 r) ⌝ }
+    ensures { λ r. ⌜ Due (closing below low weight high bits (place .0)) (meansReadI64 r) ⌝ }
 {
     let n = high + 1;
     if 0 < bits {
         if 8 < high {
-            return ReadI64::Refused(Refusal::Overflow);
+            return ReadI64::Refused(Refusal::Overflow, place);
         }
         let part = weight * (bits as u64);
         let m = low + part;
@@ -41,19 +42,24 @@ fn closed(low: u64, weight: u64, high: usize, bits: u8, below: bool) -> ReadI64
     }
     let twice = low * 2;
     if twice < weight {
-        return ReadI64::Refused(Refusal::NotShortest);
+        return ReadI64::Refused(Refusal::NotShortest, place);
     }
     ReadI64::Number(signed(low, below), Count(n))
 }
 
-// The number whose shortest form stands at the start, with its count of bytes; else 4, 1, 2 or 3.
+// The number whose shortest form stands at the start, with its count of bytes; else 4, 1, 2 or 3, each with the place of the byte
+// that decided it: the start asked, the end of the bytes, the byte at the greatest length, the last byte.
 pub fn read_i64(bytes: &[u8], start: Place) -> ReadI64
     ensures { λ r. ⌜ ReadsI64 (now (bytes .entry)) (start .0) r ⌝ }
 {
+    let at = start.0;
     match walk(bytes, start) {
-        Walked::Past => ReadI64::Refused(Refusal::Place),
-        Walked::Open(_) => ReadI64::Refused(Refusal::End),
-        Walked::Long => ReadI64::Refused(Refusal::Overflow),
+        Walked::Past => ReadI64::Refused(Refusal::Place, start),
+        Walked::Open(_) => ReadI64::Refused(Refusal::End, Place(bytes.len())),
+        Walked::Long => {
+            let tenth = at + 9;
+            ReadI64::Refused(Refusal::Overflow, Place(tenth))
+        }
         Walked::Closed {
             sum,
             weight,
@@ -61,13 +67,15 @@ pub fn read_i64(bytes: &[u8], start: Place) -> ReadI64
             last,
         } => {
             let high = count.0;
+            let ends = at + high;
+            let place = Place(ends);
             if last < 64 {
-                return closed(sum, weight, high, last, false);
+                return closed(sum, weight, high, last, false, place);
             }
             let up = weight - 1;
             let low = up - sum;
             let bits = 127 - last;
-            closed(low, weight, high, bits, true)
+            closed(low, weight, high, bits, true, place)
         }
     }
 }

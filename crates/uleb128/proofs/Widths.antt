@@ -1,11 +1,11 @@
 -- Unsigned widths: their rules are those of spelling, and what a walk's answer then says at a width. A high byte is 128 or more.
 --
 --   sound, spells   an unsigned width is sound, and its rules are those of spelling unsigned numbers
---   says-past       a place past the end: refusal 4
---   says-end        only high bytes, fewer than the most: refusal 1
---   says-overrun    as many high bytes as the most: refusal 2
---   says-large      a last byte at the greatest length that is above top: refusal 2
---   says-many       a last byte 0 that isn't the first, within the greatest length: refusal 3
+--   says-past       a place past the end: refusal 4, decided by that place
+--   says-end        only high bytes, fewer than the most: refusal 1, decided by the end of the bytes
+--   says-overrun    as many high bytes as the most: refusal 2, decided by the byte at the greatest length
+--   says-large      a last byte at the greatest length that is above top: refusal 2, decided by that byte
+--   says-many       a last byte 0 that isn't the first, within the greatest length: refusal 3, decided by that byte
 --   says-number     any other group within it: its number and count
 --   number-fits     that number fits 64 bits
 use Prim.Native.Nat.{ℕ, _+_, _-_, _*_, _^_, _≤_, _<_}
@@ -16,7 +16,7 @@ use native.Mathlib.Nat.{pos-of-ne-zero}
 use native.Mathlib.Omega.{arith}
 use borrow.Author.Tests.{le-leb, lt-leb, eq-eqb, ne-eqb, eqb-false}
 use lib.ListN.{length, drop}
-use Rattle.words.specs.Answer.{gives, refused, by}
+use Rattle.words.specs.Answer.{gives, refused, by-at}
 use Rattle.groups.specs.Group.{run}
 use Rattle.groups.specs.Width.{Reads}
 use Rattle.groups.proofs.Rows.{read-past, due-kept}
@@ -47,20 +47,20 @@ module _ (most top : ℕ) (wide : Wide most top) (s : List ℕ) (at : ℕ) where
   wide-sound : Sound (unsigned most top)
   wide-sound = sound most top (omega (arith, wide .some)) (wide .low)
 
-  pub says-past : length s < at → Reads (unsigned most top) s at (refused (by 4))
+  pub says-past : length s < at → Reads (unsigned most top) s at (refused (by-at 4 at))
   says-past h = due-kept (read-past (unsigned most top) s at h)
 
-  pub says-end : {high : ℕ} → Opening s at high → high < most → Reads (unsigned most top) s at (refused (by 1))
+  pub says-end : {high : ℕ} → Opening s at high → high < most → Reads (unsigned most top) s at (refused (by-at 1 (length s)))
   says-end o h = due-kept (open-end (unsigned most top) wide-sound s at o h)
 
-  pub says-overrun : at ≤ length s → most ≤ run (drop at s) → Reads (unsigned most top) s at (refused (by 2))
+  pub says-overrun : at ≤ length s → most ≤ run (drop at s) → Reads (unsigned most top) s at (refused (by-at 2 (at + (most - 1))))
   says-overrun h m = due-kept (overrun-large (unsigned most top) wide-sound s at h m)
 
   module _ {sum weight high last : ℕ} (c : Closing s at sum weight high last) where
-    pub says-large : high + 1 ≡ most → top < last → Reads (unsigned most top) s at (refused (by 2))
+    pub says-large : high + 1 ≡ most → top < last → Reads (unsigned most top) s at (refused (by-at 2 (at + high)))
     says-large e h = due-kept (closed-large (unsigned most top) wide-sound s at c e (lt-leb last top h))
 
-    pub says-many : high < most → 0 < high → last < 1 → Reads (unsigned most top) s at (refused (by 3))
+    pub says-many : high < most → 0 < high → last < 1 → Reads (unsigned most top) s at (refused (by-at 3 (at + high)))
     says-many m h z =
         due-kept
         (closed-many (unsigned most top) wide-sound s at c (omega arith) (λ e. le-leb last top (omega arith)) h (eq-eqb last 0 (omega arith)))

@@ -2,13 +2,13 @@
 --
 --   WritesU64, WritesU32         writing v at the place of s answers r and leaves out
 --   LengthU64, LengthU32         the number takes r bytes
---   meansReadU64, meansReadU32   what a reader's answer says: the number with its count of bytes, or the refusal's number
+--   meansReadU64, meansReadU32   what a reader's answer says: the number with its count of bytes, or the refusal's number with its place
 --   Reads64 w                    reading at the width w, of at most 64 bits, from the place at on answers r
 --   ReadsU64, ReadsU32           the same at the two widths
 use Prim.Native.Nat.{ℕ}
 use mathlib.Core.List.{List}
 use Rattle.words.specs.Lays.{Lays, Takes}
-use Rattle.words.specs.Answer.{Answer, gives, refused, because}
+use Rattle.words.specs.Answer.{Answer, gives, refused, becauseAt}
 use Rattle.words.specs.declared.Count.{Count}
 use Rattle.words.specs.declared.Written.{Written}
 use Rattle.groups.specs.Width.{Width, Reads}
@@ -32,11 +32,11 @@ LengthU32 v r = Takes (form v) r
 
 abbrev pub meansReadU64 : ReadU64 → Answer (ℕ × ℕ)
 meansReadU64 (R64.Number v n) = gives (v, n .0)
-meansReadU64 (R64.Refused r) = refused (because r)
+meansReadU64 (R64.Refused r p) = refused (becauseAt r (p .0))
 
 abbrev pub meansReadU32 : ReadU32 → Answer (ℕ × ℕ)
 meansReadU32 (R32.Number v n) = gives (v, n .0)
-meansReadU32 (R32.Refused r) = refused (because r)
+meansReadU32 (R32.Refused r p) = refused (becauseAt r (p .0))
 
 abbrev pub Reads64 : Width ℕ → List ℕ → ℕ → ReadU64 → Type 0
 Reads64 w s at r = Reads w s at (meansReadU64 r)

@@ -8,7 +8,7 @@ use words::Count;
 use words::Place;
 use words::Refusal;
 ghost use mathlib.Core.Path.{_≡_};
-ghost use Prim.Native.Nat.{_+_, _*_, _^_, _<_};
+ghost use Prim.Native.Nat.{_+_, _-_, _*_, _^_, _<_};
 ghost use Rattle.uleb128.specs.Unsigned.{unsigned};
 ghost use Rattle.uleb128.specs.Inner.{Wide};
 ghost use Rattle.uleb128.specs.Promise.{Reads64, ReadsU64, ReadsU32};
@@ -22,21 +22,32 @@ fn number(sum: u64, weight: u64, high: usize, last: u8) -> ReadU64
     ReadU64::Number(sum + part, Count(high + 1))
 }
 
+// Too large for the width: the byte at the greatest length decides it.
+fn overflow(at: usize, most: usize) -> ReadU64
+    requires { ⌜ (0 < most) × (at + most < 2 ^ 64) ⌝ }
+    ensures { λ r. ⌜ r ≡ ReadU64.Refused Refusal.Overflow (record { 0 = at + (most - 1) }) ⌝ }
+{
+    let before = most - 1;
+    let place = at + before;
+    ReadU64::Refused(Refusal::Overflow, Place(place))
+}
+
 // A number of at most most bytes, whose last byte at that length is at most top.
 fn read_width(bytes: &[u8], start: Place, most: usize, top: u8) -> ReadU64
     requires { ⌜ Wide most top ⌝ }
     ensures { λ r. ⌜ Reads64 (unsigned most top) (now (bytes .entry)) (start .0) r ⌝ }
 {
+    let at = start.0;
     match walk(bytes, start) {
-        Walked::Past => ReadU64::Refused(Refusal::Place),
+        Walked::Past => ReadU64::Refused(Refusal::Place, start),
         Walked::Open(count) => {
             let high = count.0;
             if high < most {
-                return ReadU64::Refused(Refusal::End);
+                return ReadU64::Refused(Refusal::End, Place(bytes.len()));
             }
-            ReadU64::Refused(Refusal::Overflow)
+            overflow(at, most)
         }
-        Walked::Long => ReadU64::Refused(Refusal::Overflow),
+        Walked::Long => overflow(at, most),
         Walked::Closed {
             sum,
             weight,
@@ -45,27 +56,30 @@ fn read_width(bytes: &[u8], start: Place, most: usize, top: u8) -> ReadU64
         } => {
             let high = count.0;
             if most <= high {
-                return ReadU64::Refused(Refusal::Overflow);
+                return overflow(at, most);
             }
             if high < 1 {
                 return number(sum, weight, high, last);
             }
+            let ends = at + high;
+            let place = Place(ends);
             if last < 1 {
-                return ReadU64::Refused(Refusal::NotShortest);
+                return ReadU64::Refused(Refusal::NotShortest, place);
             }
             let n = high + 1;
             if n < most {
                 return number(sum, weight, high, last);
             }
             if top < last {
-                return ReadU64::Refused(Refusal::Overflow);
+                return ReadU64::Refused(Refusal::Overflow, place);
             }
             number(sum, weight, high, last)
         }
     }
 }
 
-// The number whose shortest form stands at the start, with its count of bytes; else 4, 1, 2 or 3.
+// The number whose shortest form stands at the start, with its count of bytes; else 4, 1, 2 or 3, each with the place of the byte
+// that decided it: the start asked, the end of the bytes, the byte at the greatest length, the last byte.
 pub fn read_u64(bytes: &[u8], start: Place) -> ReadU64
     ensures { λ r. ⌜ ReadsU64 (now (bytes .entry)) (start .0) r ⌝ }
 {
@@ -81,6 +95,6 @@ pub fn read_u32(bytes: &[u8], start: Place) -> ReadU32
             let narrow = v as u32;
             ReadU32::Number(narrow, n)
         }
-        ReadU64::Refused(refusal) => ReadU32::Refused(refusal),
+        ReadU64::Refused(refusal, place) => ReadU32::Refused(refusal, place),
     }
 }

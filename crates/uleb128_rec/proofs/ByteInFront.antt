@@ -1,11 +1,11 @@
 -- The recursive reader, a byte at a time: a byte of 128 or more stands in front of a reading of one byte less at the next place. Below, left is
 -- the most bytes of a width that allows 0 and 1 at that length.
 --
---   reading-step               a byte of 128 or more in front of others is read as that byte ahead of their reading, of one byte less
---   rest-end                   at the end: refusal 1
---   rest-large                 a byte below 128 and above 1, where left is 1: refusal 2
+--   reading-step               a byte of 128 or more in front of others is read as that byte ahead of their reading, of one byte less, moved by one
+--   rest-end                   at the end: refusal 1, decided there
+--   rest-large                 a byte below 128 and above 1, where left is 1: refusal 2, decided by that byte
 --   rest-last                  any other byte below 128: the number that it is, and one byte
---   rest-overrun               a byte of 128 or more, where left is 1: refusal 2
+--   rest-overrun               a byte of 128 or more, where left is 1: refusal 2, decided by that byte
 --   rest-ahead                 where left is more: that byte ahead of the reading at the next place, of one byte less
 --   reads-joins                what is read at a width of fewer than ten bytes leaves room for seven bits more, or is a refusal
 --   joins-room                 a number that leaves such room is below 2 to the 57, of fewer than ten bytes
@@ -22,9 +22,10 @@ use borrow.Author.Tests.{lt-ltb, le-ltb, le-leb, lt-leb, eq-eqb, ne-eqb}
 use lib.Dec.{ltb, eqb, leb·suc-suc, eqb·suc-suc}
 use lib.ListN.{length, getD, take, drop, drop-of-length-le, List·getD-eq-default}
 use lib.Seq.{drop-cons}
-use Rattle.words.specs.Answer.{pick, Answer, gives, refused, by, Why}
+use Rattle.words.specs.Answer.{pick, Answer, gives, refused, by-at, Why, movedWhy, moved}
 use Rattle.words.specs.declared.Count.{Count}
-use Rattle.words.proofs.Cases.{by-order, both-false}
+use Rattle.words.proofs.Cases.{by-order, by-test, both-false}
+use Rattle.words.proofs.Moved.{moved-twice, same-place}
 use Rattle.groups.specs.Group.{Bytes, run, digits}
 use Rattle.groups.specs.Width.{runsOut, tooLarge, tooMany, reading, read, Reads}
 use Rattle.groups.proofs.Run.{run-low, run-high, at-run, digits-take, pow-up}
@@ -55,9 +56,14 @@ above-zero l h =
     omega (arith, digits-take l (run l) in-l))
     (λ out. let z : getD l (run l) 0 ≡ 0 = List·getD-eq-default l 0 out in absurd (omega arith))
 
-ahead-pick : (b : ℕ) (k : Why) (t : Bool) (a : Answer (ℕ × ℕ)) → byteAhead b (pick t (refused k) a) ≡ pick t (refused k) (byteAhead b a)
-ahead-pick b k true a = refl
-ahead-pick b k false a = refl
+ahead-pick : (b p n : ℕ) (k : Why) (t : Bool) (a : Answer (ℕ × ℕ)) → byteAhead b p (moved n (pick t (refused k) a)) ≡ pick t (refused (movedWhy n k)) (byteAhead b p (moved n a))
+ahead-pick b p n k true a = refl
+ahead-pick b p n k false a = refl
+
+-- a byte ahead of what is one byte behind it, and both moved
+ahead-moved : (b n : ℕ) (a : Answer (ℕ × ℕ)) → moved n (byteAhead b 1 (moved 1 a)) ≡ byteAhead b (n + 1) (moved (n + 1) a)
+ahead-moved b n (gives x) = by-test (eqb (x .0) 0) (λ t. rw t) (λ t. rw t)
+ahead-moved b n (refused k) = moved-twice {A = ℕ × ℕ} n 1 (refused k)
 
 module _ (k top : ℕ) (some : 0 < k) (b : ℕ) (l : List ℕ) (hi : 128 ≤ b) where
   out-step : runsOut (unsigned (suc k) top) (b ∷ l) ≡ runsOut (unsigned k top) l
@@ -76,8 +82,8 @@ module _ (k top : ℕ) (some : 0 < k) (b : ℕ) (l : List ℕ) (hi : 128 ≤ b) 
   many-step = rw (run-high b l hi, lt-ltb 0 (suc (run l)) (omega arith))
 
   -- what is read behind the byte is 0 exactly where its last byte is 0 and it has no other
-  last-step : (x : Answer (ℕ × ℕ)) → pick (eqb (getD l (run l) 0) 0) (refused (by 3)) x
-      ≡ pick (tooMany (unsigned k top) l) (refused (by 3)) (pick (eqb (digits (take (run l + 1) l)) 0) (refused (by 3)) x)
+  last-step : (x : Answer (ℕ × ℕ)) → pick (eqb (getD l (run l) 0) 0) (refused (by-at 3 (suc (run l)))) x
+      ≡ pick (tooMany (unsigned k top) l) (refused (by-at 3 (suc (run l)))) (pick (eqb (digits (take (run l + 1) l)) 0) (refused (by-at 3 1)) x)
   unfolding tooMany
   last-step x =
       let b = getD l (run l) 0 in
@@ -87,68 +93,75 @@ module _ (k top : ℕ) (some : 0 < k) (b : ℕ) (l : List ℕ) (hi : 128 ≤ b) 
       (λ p. rw (eq-eqb b 0 (omega arith), lt-ltb 0 (run l) p))
       (λ p.
       let v : digits (take (run l + 1) l) ≡ 0 = zero-alone l (omega arith) (omega arith) in
-      rw (eq-eqb b 0 (omega arith), le-ltb 0 (run l) p, v)))
+      let i : suc (run l) ≡ 1 = omega arith in
+      rw (eq-eqb b 0 (omega arith), le-ltb 0 (run l) p, v, i)))
       (λ z.
       let v : eqb (digits (take (run l + 1) l)) 0 ≡ false =
       ne-eqb (digits (take (run l + 1) l)) 0 (λ e. omega (arith, above-zero l z)) in
       rw (ne-eqb b 0 (λ e. omega arith), both-false (ltb 0 (run l)), v))
 
-  pub reading-step : reading (unsigned (suc k) top) (b ∷ l) ≡ byteAhead b (reading (unsigned k top) l)
+  pub reading-step : reading (unsigned (suc k) top) (b ∷ l) ≡ byteAhead b 1 (moved 1 (reading (unsigned k top) l))
   unfolding reading digits
   reading-step =
       let j : suc (run l) + 1 ≡ suc (run l + 1) = omega arith in
-      rw (out-step, large-step, many-step, run-high b l hi, j, last-step, ← (add-one (run l + 1)))
-      (sym (ahead-pick b (by 1) (runsOut (unsigned k top) l) _ ∙ ap (pick (runsOut (unsigned k top) l) (refused (by 1)))
-      (ahead-pick b (by 2) (tooLarge (unsigned k top) l) _ ∙ ap (pick (tooLarge (unsigned k top) l) (refused (by 2)))
-      (ahead-pick b (by 3) (tooMany (unsigned k top) l) _))))
+      let first : suc (length l) ≡ 1 + length l = omega arith in
+      let second : suc k - 1 ≡ 1 + (k - 1) = omega arith in
+      let third : suc (run l) ≡ 1 + run l = omega arith in
+      rw (out-step, large-step, many-step, run-high b l hi, j, last-step, ← (add-one (run l + 1)), first, second, third)
+      (sym (ahead-pick b 1 1 (by-at 1 (length l)) (runsOut (unsigned k top) l) _ ∙ ap (pick (runsOut (unsigned k top) l) (refused (by-at 1 (1 + length l))))
+      (ahead-pick b 1 1 (by-at 2 (k - 1)) (tooLarge (unsigned k top) l) _ ∙ ap (pick (tooLarge (unsigned k top) l) (refused (by-at 2 (1 + (k - 1)))))
+      (ahead-pick b 1 1 (by-at 3 (run l)) (tooMany (unsigned k top) l) _))))
 
 module _ (left : ℕ) (some : 0 < left) (s : List ℕ) (at : ℕ) where
-  pub rest-end : at ≤ length s → length s ≤ at → Reads (unsigned left 1) s at (refused (by 1))
+  pub rest-end : at ≤ length s → length s ≤ at → Reads (unsigned left 1) s at (refused (by-at 1 (length s)))
   unfolding run
   rest-end h e =
       let n : drop at s ≡ [] = drop-of-length-le s e in
-      due-kept (read-from (unsigned left 1) s at h ∙ rw n (row-end (unsigned left 1) [] refl some))
+      due-kept (read-from (unsigned left 1) s at h (ap (reading (unsigned left 1)) n ∙ row-end (unsigned left 1) [] refl some) ∙ same-place (omega arith))
 
   module _ (there : at < length s) where
     bytes-from : drop at s ≡ getD s at 0 ∷ drop (suc at) s
     bytes-from = drop-cons s at 0 there
 
-    reading-from : read (unsigned left 1) s at ≡ reading (unsigned left 1) (getD s at 0 ∷ drop (suc at) s)
-    reading-from = read-from (unsigned left 1) s at (omega arith) ∙ ap (reading (unsigned left 1)) bytes-from
+    reading-from : {a : Answer (ℕ × ℕ)} → reading (unsigned left 1) (getD s at 0 ∷ drop (suc at) s) ≡ a → read (unsigned left 1) s at ≡ moved at a
+    reading-from e = read-from (unsigned left 1) s at (omega arith) (ap (reading (unsigned left 1)) bytes-from ∙ e)
 
     module _ (low : getD s at 0 < 128) where
-      pub rest-large : left < 2 → 1 < getD s at 0 → Reads (unsigned left 1) s at (refused (by 2))
+      pub rest-large : left < 2 → 1 < getD s at 0 → Reads (unsigned left 1) s at (refused (by-at 2 at))
       rest-large l h =
           let i : left - 1 ≡ 0 = omega arith in
           due-kept
-          (reading-from ∙ row-large (unsigned left 1) (getD s at 0 ∷ drop (suc at) s) (omega arith) (omega arith) (rw i (lt-leb (getD s at 0) 1 h)))
+          (reading-from (row-large (unsigned left 1) (getD s at 0 ∷ drop (suc at) s) (omega arith) (omega arith) (rw i (lt-leb (getD s at 0) 1 h)))
+          ∙ same-place (omega arith))
 
       pub rest-last : (left < 2 → getD s at 0 ≤ 1) → Reads (unsigned left 1) s at (gives (getD s at 0, 1))
       unfolding digits
       rest-last f =
           let z = run-low (getD s at 0) (drop (suc at) s) low in
           due-kept
-          (reading-from ∙ row-number (unsigned left 1) (getD s at 0 ∷ drop (suc at) s) (rw z (omega arith)) (rw z (omega arith))
-          (λ e. rw z (le-leb (getD s at 0) 1 (f (omega arith)))) (λ h. absurd (omega arith))
+          (reading-from (row-number (unsigned left 1) (getD s at 0 ∷ drop (suc at) s) (rw z (omega arith)) (rw z (omega arith))
+          (λ e. rw z (le-leb (getD s at 0) 1 (f (omega arith)))) (λ h. absurd (omega arith)))
           ∙ rw (z, mod-eq-of-lt low, add-zero))
 
     module _ (high : 128 ≤ getD s at 0) where
-      pub rest-overrun : left < 2 → Reads (unsigned left 1) s at (refused (by 2))
+      pub rest-overrun : left < 2 → Reads (unsigned left 1) s at (refused (by-at 2 at))
       rest-overrun l =
           due-kept
           (overrun-large (unsigned left 1) (sound left 1 some (omega arith)) s at (omega arith)
-          (rw (bytes-from, run-high (getD s at 0) (drop (suc at) s) high) (omega arith)))
+          (rw (bytes-from, run-high (getD s at 0) (drop (suc at) s) high) (omega arith))
+          ∙ same-place (omega arith))
 
-      pub rest-ahead : 1 < left → {a : Answer (ℕ × ℕ)} → a ≡ read (unsigned (left - 1) 1) s (at + 1) → read (unsigned left 1) s at ≡ byteAhead (getD s at 0) a
+      pub rest-ahead : 1 < left → {a : Answer (ℕ × ℕ)} → a ≡ read (unsigned (left - 1) 1) s (at + 1) → read (unsigned left 1) s at ≡ byteAhead (getD s at 0) (at + 1) a
       rest-ahead h p =
           let rest = drop (suc at) s in
+          let less = reading (unsigned (left - 1) 1) rest in
           let n : suc (left - 1) ≡ left = omega arith in
-          let q : reading (unsigned left 1) (getD s at 0 ∷ rest) ≡ byteAhead (getD s at 0) (reading (unsigned (left - 1) 1) rest) =
-          subst (λ (m : ℕ). reading (unsigned m 1) (getD s at 0 ∷ rest) ≡ byteAhead (getD s at 0) (reading (unsigned (left - 1) 1) rest)) n
+          let q : reading (unsigned left 1) (getD s at 0 ∷ rest) ≡ byteAhead (getD s at 0) 1 (moved 1 less) =
+          subst (λ (m : ℕ). reading (unsigned m 1) (getD s at 0 ∷ rest) ≡ byteAhead (getD s at 0) 1 (moved 1 less)) n
           (reading-step (left - 1) 1 (omega arith) (getD s at 0) rest high) in
-          let d : read (unsigned (left - 1) 1) s (at + 1) ≡ reading (unsigned (left - 1) 1) rest =
-          read-from (unsigned (left - 1) 1) s (at + 1) (omega arith) ∙ ap (λ (i : ℕ). reading (unsigned (left - 1) 1) (drop i s)) (add-one at) in
-          reading-from ∙ q ∙ ap (byteAhead (getD s at 0)) (sym (p ∙ d))
+          let d : read (unsigned (left - 1) 1) s (at + 1) ≡ moved (at + 1) less =
+          read-from (unsigned (left - 1) 1) s (at + 1) (omega arith) (ap (λ (i : ℕ). reading (unsigned (left - 1) 1) (drop i s)) (add-one at)) in
+          reading-from q ∙ ahead-moved (getD s at 0) at less ∙ ap (byteAhead (getD s at 0) (at + 1)) (sym (p ∙ d))
 
 pub reads-joins : (most : ℕ) (s : List ℕ) (at : ℕ) (a : Answer (ℕ × ℕ)) → 0 < most → most < 10 → Bytes s → a ≡ read (unsigned most 1) s at → Joins a
 reads-joins most s at (gives x) some few bytes p =
@@ -159,17 +172,17 @@ reads-joins most s at (gives x) some few bytes p =
     (omega arith, omega arith)
 reads-joins most s at (refused k) some few bytes p = tt
 
--- a byte in front of an answer, by its case
-module _ (b : ℕ) {r : ReadU64} where
-  module _ {v : ℕ} {n : Count} (e : r ≡ Number v n) where
-    pub joins-room : Joins (meansReadU64 r) → (v < 2 ^ 57) × (n .0 < 10)
-    joins-room j = rw e at j
+pub joins-room : {r : ReadU64} {v : ℕ} {n : Count} → r ≡ Number v n → Joins (meansReadU64 r) → (v < 2 ^ 57) × (n .0 < 10)
+joins-room e j = rw e at j
 
-    pub ahead-zero : v < 1 → byteAhead b (meansReadU64 r) ≡ refused (by 3)
+-- a byte in front of an answer, by its case
+module _ (b p : ℕ) {r : ReadU64} where
+  module _ {v : ℕ} {n : Count} (e : r ≡ Number v n) where
+    pub ahead-zero : v < 1 → byteAhead b p (meansReadU64 r) ≡ refused (by-at 3 p)
     ahead-zero z = rw (e, eq-eqb v 0 (omega arith))
 
-    pub ahead-number : 1 ≤ v → byteAhead b (meansReadU64 r) ≡ gives (b % 128 + 128 * v, n .0 + 1)
+    pub ahead-number : 1 ≤ v → byteAhead b p (meansReadU64 r) ≡ gives (b % 128 + 128 * v, n .0 + 1)
     ahead-number z = rw (e, ne-eqb v 0 (λ q. omega arith))
 
-  pub ahead-case : {q : ReadU64} → r ≡ q → byteAhead b (meansReadU64 r) ≡ byteAhead b (meansReadU64 q)
+  pub ahead-case : {q : ReadU64} → r ≡ q → byteAhead b p (meansReadU64 r) ≡ byteAhead b p (meansReadU64 q)
   ahead-case e = rw e

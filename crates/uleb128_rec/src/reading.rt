@@ -14,15 +14,16 @@ ghost use Rattle.uleb128.specs.Promise.{meansReadU64, Reads64};
 ghost use Rattle.uleb128_rec.specs.Promise.{ReadsU64Rec};
 ghost use Rattle.uleb128_rec.specs.Inner.{Joins, byteAhead};
 
-// A byte of 128 or more, in front of what was read behind it: no number is 0 behind another byte.
-fn behind(b: u8, read: ReadU64) -> ReadU64
+// A byte of 128 or more, in front of what was read behind it, at the place next: no number is 0 behind another byte, and a 0 there
+// is one byte.
+fn behind(b: u8, read: ReadU64, next: usize) -> ReadU64
     requires { ⌜ Joins (meansReadU64 read) ⌝ }
-    ensures { λ r. ⌜ Due (byteAhead b (meansReadU64 read)) (meansReadU64 r) ⌝ }
+    ensures { λ r. ⌜ Due (byteAhead b next (meansReadU64 read)) (meansReadU64 r) ⌝ }
 {
     match read {
         ReadU64::Number(v, count) => {
             if v < 1 {
-                return ReadU64::Refused(Refusal::NotShortest);
+                return ReadU64::Refused(Refusal::NotShortest, Place(next));
             }
             let bits = take_low_7_bits(b as u64);
             let low = bits as u64;
@@ -32,7 +33,7 @@ fn behind(b: u8, read: ReadU64) -> ReadU64
             let n = more + 1;
             ReadU64::Number(whole, Count(n))
         }
-        ReadU64::Refused(refusal) => ReadU64::Refused(refusal),
+        ReadU64::Refused(refusal, place) => ReadU64::Refused(refusal, place),
     }
 }
 
@@ -42,7 +43,7 @@ fn read_rest(bytes: &[u8], at: usize, left: usize) -> ReadU64
     ensures { λ r. ⌜ Reads64 (unsigned left 1) (now (bytes .entry)) at r ⌝ }
 {
     if bytes.len() <= at {
-        return ReadU64::Refused(Refusal::End);
+        return ReadU64::Refused(Refusal::End, Place(bytes.len()));
     }
     let b = bytes[at];
     let high = is_high_8_bit_set(b);
@@ -52,16 +53,16 @@ fn read_rest(bytes: &[u8], at: usize, left: usize) -> ReadU64
             return ReadU64::Number(v, Count(1));
         }
         if 1 < b {
-            return ReadU64::Refused(Refusal::Overflow);
+            return ReadU64::Refused(Refusal::Overflow, Place(at));
         }
         return ReadU64::Number(v, Count(1));
     }
     if left < 2 {
-        return ReadU64::Refused(Refusal::Overflow);
+        return ReadU64::Refused(Refusal::Overflow, Place(at));
     }
     let next = at + 1;
     let fewer = left - 1;
-    behind(b, read_rest(bytes, next, fewer))
+    behind(b, read_rest(bytes, next, fewer), next)
 }
 
 // The same answers as `read_u64`.
@@ -70,7 +71,7 @@ pub fn read_u64_rec(bytes: &[u8], start: Place) -> ReadU64
 {
     let at = start.0;
     if bytes.len() < at {
-        return ReadU64::Refused(Refusal::Place);
+        return ReadU64::Refused(Refusal::Place, start);
     }
     read_rest(bytes, at, 10)
 }

@@ -9,7 +9,7 @@ use Rattle.lists.proofs.reading.read_strict.Statement.{statement}
 use Rattle.lists.proofs.reading.read_strict.Tie as tie
 
 -- what a case of the first pass's answer says
-scanned : (c : tie.After-scan) {x : Scanned} → c .scan .result ≡ x → meansScanned x ≡ many (numbers (c .before .before .before .before .args .block .now))
+scanned : (c : tie.After-scan) {x : Scanned} → c .scan .result ≡ x → meansScanned x ≡ many (numbers 0 (c .before .before .before .before .args .block .now))
 scanned c e = ap meansScanned (sym e) ∙ c .scan .ensures .is
 
 returns : tie.Need-returns

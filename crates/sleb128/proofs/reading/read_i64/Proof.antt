@@ -3,7 +3,7 @@ use native.Mathlib.Omega.{arith}
 use borrow.Author.Needs.{needs}
 use denote.Ref.{now}
 use Rattle.groups.proofs.Rows.{read-past, due-kept, due-passed}
-use Rattle.groups.proofs.FromWalk.{walk-tells, Closing, closed-below, open-end, overrun-large}
+use Rattle.groups.proofs.FromWalk.{walk-tells, Closing, closed-below, open-end, overrun-large, overrun-inside, closed-inside}
 use Rattle.sleb128.specs.Signed.{i64}
 use Rattle.sleb128.proofs.Widths.{sound}
 use Rattle.sleb128.proofs.SignedGroups.{closes-above, closes-below, reads-above, reads-below}
@@ -18,6 +18,12 @@ closing : (c : tie.After-sum)
     → Closing (now (start c .args .bytes)) (start c .args .start .0) (c .sum .given .0 .0) (c .sum .given .0 .1 .0)
     (c .sum .given .0 .1 .1 .0 .0) (c .sum .given .0 .1 .1 .1 .0)
 closing c = walk-tells _ _ (c .before .before .walk .ensures) (c .sum .given .1)
+
+add-tenth : tie.Need-add-tenth
+add-tenth c = omega (arith, overrun-inside (walk-tells _ _ (c .before .before .walk .ensures) (c .enum-told3 .given .1)))
+
+add-ends : tie.Need-add-ends
+add-ends c = omega (arith, closed-inside (closing (c .before)))
 
 closed-requires : tie.Need-closed-requires
 closed-requires c κs = closes-above (closing (c .before .before)) (c .if1 .taken)
@@ -56,5 +62,5 @@ returns-5 c = due-passed (reads-below (closing (c .before .before .before)) (c .
 pub read-i64-spec : {M : Type 1} → statement M
 read-i64-spec =
     tie.close
-    (tie.spec (λ c κs. search needs) (λ c. search needs) (λ c. search needs) (λ c. search needs) (λ c. search needs)
-    closed-requires returns sub-up sub-low sub-bits closed-requires-2 returns-2 returns-3 returns-4 returns-5)
+    (tie.spec (λ c κs. search needs) (λ c. search needs) (λ c. search needs) (λ c. search needs) add-tenth
+    (λ c. search needs) add-ends closed-requires returns sub-up sub-low sub-bits closed-requires-2 returns-2 returns-3 returns-4 returns-5)

@@ -5,7 +5,7 @@ use mathlib.Core.Path.{_≡_}
 use native.Mathlib.Omega.{arith}
 use borrow.Author.Needs.{needs}
 use denote.Ref.{now}
-use Rattle.groups.proofs.FromWalk.{walk-tells, Closing}
+use Rattle.groups.proofs.FromWalk.{walk-tells, Closing, open-inside, overrun-inside, closed-inside}
 use Rattle.uleb128.proofs.Widths.{says-past, says-end, says-overrun, says-large, says-many, says-number, number-fits}
 use Rattle.uleb128.proofs.reading.read_width.Statement.{statement}
 use Rattle.uleb128.proofs.reading.read_width.Tie as tie
@@ -29,10 +29,24 @@ returns c =
     says-end _ _ (search needs) _ _
     (walk-tells _ _ (c .before .before .before .before .walk .ensures) (c .before .before .count .given .1)) (c .if1 .taken)
 
+overflow-requires : tie.Need-overflow-requires
+overflow-requires c κs =
+    let walked = c .before .before .before .before in
+    omega (arith, open-inside (walk-tells _ _ (walked .walk .ensures) (c .before .before .count .given .1)), walked .before .before .pre .some)
+
+overflow-requires-2 : tie.Need-overflow-requires-2
+overflow-requires-2 c κs =
+    let walked = c .before .before in
+    omega (arith, overrun-inside (walk-tells _ _ (walked .walk .ensures) (c .enum-told2 .given .1)), walked .before .before .pre)
+
+overflow-requires-3 : tie.Need-overflow-requires-3
+overflow-requires-3 c κs =
+    omega (arith, closed-inside (closing (c .before .before)), start (c .before .before) .pre .some)
+
 returns-2 : tie.Need-returns-2
 returns-2 c =
-    let q = closing (c .before .before) in
-    says-overrun _ _ (search needs) _ _ (q .here) (omega (arith, q .many))
+    let q = closing (c .before .before .before) in
+    rw (c .overflow3 .ensures) (says-overrun _ _ (search needs) _ _ (q .here) (omega (arith, q .many)))
 
 number-requires : tie.Need-number-requires
 number-requires c κs =
@@ -42,6 +56,9 @@ returns-3 : tie.Need-returns-3
 returns-3 c =
     let q = closing (c .before .before .before .before) in
     rw (c .number .ensures) (says-number _ _ (search needs) _ _ q (search needs) (λ e. omega arith) (λ h. omega arith))
+
+add-ends : tie.Need-add-ends
+add-ends c = omega (arith, closed-inside (closing (c .before .before .before)))
 
 returns-4 : tie.Need-returns-4
 returns-4 c =
@@ -69,13 +86,13 @@ returns-7 c = says-past _ _ (search needs) _ _ (walk-tells _ _ (c .before .befor
 
 returns-8 : tie.Need-returns-8
 returns-8 c =
-    let q = walk-tells _ _ (c .before .before .before .before .walk .ensures) (c .before .before .count .given .1) in
-    says-overrun _ _ (search needs) _ _ (q .here) (omega (arith, q .many))
+    let q = walk-tells _ _ (c .before .before .before .before .before .walk .ensures) (c .before .before .before .count .given .1) in
+    rw (c .overflow .ensures) (says-overrun _ _ (search needs) _ _ (q .here) (omega (arith, q .many)))
 
 returns-9 : tie.Need-returns-9
 returns-9 c =
-    let q = walk-tells _ _ (c .before .before .walk .ensures) (c .enum-told2 .given .1) in
-    says-overrun _ _ (search needs) _ _ (q .here) (omega (arith, q .many))
+    let q = walk-tells _ _ (c .before .before .before .walk .ensures) (c .before .enum-told2 .given .1) in
+    rw (c .overflow2 .ensures) (says-overrun _ _ (search needs) _ _ (q .here) (omega (arith, q .many)))
 
 returns-10 : tie.Need-returns-10
 returns-10 c =
@@ -85,6 +102,7 @@ returns-10 c =
 pub read-width-spec : {M : Type 1} → statement M
 read-width-spec =
     tie.close
-    (tie.spec (λ c κs. search needs) (λ c. search needs) (λ c. search needs) returns (λ c. search needs)
-    (λ c. search needs) returns-2 number-requires returns-3 returns-4 (λ c. search needs) number-requires-2 returns-5
-    returns-6 number-requires-3 returns-7 returns-8 returns-9 returns-10)
+    (tie.spec (λ c κs. search needs) (λ c. search needs) (λ c. search needs) returns overflow-requires (λ c. search needs)
+    overflow-requires-2 (λ c. search needs) overflow-requires-3 returns-2 number-requires returns-3 add-ends returns-4
+    (λ c. search needs) number-requires-2 returns-5 returns-6 number-requires-3 returns-7 returns-8
+    returns-9 returns-10)
