@@ -1,6 +1,7 @@
 -- An instance for each hypothesis of the claims that `met` does not already give: no claim is empty.
 --
 --   written, read-back   write-read, read-write, more-behind, some-byte: zero is written into a buffer of one byte, and read there
+--   one-too-many         decides: the bytes 80 00 are refused by 3, decided by the byte at 1
 --   list                 list-back: a list of one number is written
 --   group                read-group: a group
 --   before, behind       damage-front, damage-back: in the block 05 80 07 03 the stretch 80 is replaced by nothing
@@ -14,7 +15,7 @@ use mathlib.Core.List.{List, [], _∷_, _++_}
 use mathlib.Core.Logic.{inr}
 use native.Mathlib.Omega.{arith}
 use lib.ListN.{length, drop}
-use Rattle.words.specs.Answer.{gives}
+use Rattle.words.specs.Answer.{gives, refused, becauseAt}
 use Rattle.words.specs.Lays.{writing, laid}
 use Rattle.words.specs.declared.Count.{Count}
 use Rattle.words.specs.declared.Refusal.the-variants.{NotShortest, Place, NoStart}
@@ -35,9 +36,9 @@ use Rattle.blocks.specs.declared.Step.the-variants as S
 use Rattle.blocks.proofs.FromStart.{front-start}
 use Rattle.lists.specs.Lists.{forms}
 use Rattle.lists.specs.Promise.{WritesList}
-use Rattle.claims.specs.Kinds.{Kind, loop64, recursive64, unsigned32, signed64, number, ReadsAs, width, WritesAs}
+use Rattle.claims.specs.Kinds.{Kind, loop64, recursive64, unsigned32, signed64, number, refuse, ReadsAs, width, WritesAs}
 use Rattle.claims.specs.OfNumbers.{zeroOf}
-use Rattle.claims.proofs.Readers.{number-says}
+use Rattle.claims.proofs.Readers.{number-says, refusal-says}
 
 abbrev count : ℕ → Count
 count n = record { 0 = n }
@@ -62,6 +63,16 @@ module _ where
 
   read-back : (k : Kind) → ReadsAs k (0 ∷ []) 0 (number k (zeroOf k) (count 1))
   read-back k = number-says k (0 ∷ []) 0 (zeroOf k) (count 1) .1 (reads-zero k)
+
+  reads-one-too-many : (k : Kind) → read (width k) (0x80 ∷ 0 ∷ []) 0 ≡ refused (becauseAt NotShortest 1)
+  unfolding read reading runsOut tooLarge tooMany run
+  reads-one-too-many loop64 = refl
+  reads-one-too-many recursive64 = refl
+  reads-one-too-many unsigned32 = refl
+  reads-one-too-many signed64 = refl
+
+  one-too-many : (k : Kind) → ReadsAs k (0x80 ∷ 0 ∷ []) 0 (refuse k NotShortest (record { 0 = 1 }))
+  one-too-many k = refusal-says k (0x80 ∷ 0 ∷ []) 0 NotShortest (record { 0 = 1 }) .1 (reads-one-too-many k)
 
   list : WritesList (0 ∷ []) (1 ∷ []) 0 (W.Bytes (count 1)) (0 ∷ [])
   unfolding forms unsigned.form spell spellings writing laid

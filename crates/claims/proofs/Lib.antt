@@ -1,5 +1,6 @@
 mod TableRows
 mod Readers
+mod Decided
 mod RoundTrips
 mod Forms
 mod Growth

@@ -30,6 +30,7 @@ use Rattle.claims.specs.Kinds.{Kind, loop64, recursive64, unsigned32, si
 use Rattle.claims.specs.Try.{Starred}
 use Rattle.claims.specs.OfNumbers.{Most, OfNumbers, zeroOf}
 use Rattle.claims.proofs.Readers.{number-says, refusal-says, one-reply, accepts, refuses, excludes, exhausts, within-of-mag, mag-of-within}
+use Rattle.claims.proofs.Decided.{decides}
 use Rattle.claims.proofs.RoundTrips.{writes, write-read, read-write, more-behind, some-byte, lays-form}
 use Rattle.claims.proofs.Forms.{twos-complement, signed-form, one-too-many, signed-most, shortest-form}
 use Rattle.claims.proofs.Growth.{growth-values}
@@ -91,6 +92,7 @@ numbers = record {
   refuses = refuses;
   excludes = excludes;
   exhausts = exhausts;
+  decides = decides;
   writes = writes;
   shortest = shortest-form;
   lengths = length-is;

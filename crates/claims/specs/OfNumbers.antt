@@ -1,6 +1,7 @@
 -- What is claimed of numbers: demand 2, how a number is spelled, and what the source says of it, over the promises that the functions' `ensures` are.
 --
 --   Accepts, Refuses, Excludes, Exhausts             demand 2, readers
+--   Decides                                          which byte decides a refusal
 --   Writes                                           demand 2, writers
 --   Shortest, Most, mostBytes, zeroOf                how a number is spelled, in how many bytes, and zero
 --   Grows, GrowthValues                              at which values a number grows by a byte
@@ -17,13 +18,14 @@ use mathlib.Core.Logic.{_↔_, _⊎_}
 use mathlib.Core.Option.{some, none}
 use lib.IntN.{ℤ, pos, negℤ, _+ℤ_}
 use lib.Signed.{_≤ℤ_, _<ℤ_}
-use lib.ListN.{length, getD}
+use lib.ListN.{length, getD, take}
 use Rattle.words.specs.Answer.{gives, refused, Why}
 use Rattle.words.specs.Lays.{LaysExactly}
 use Rattle.words.specs.Promise.{Numbered, HasRoom}
 use Rattle.words.specs.declared.Count.{Count}
 use Rattle.words.specs.declared.Place.{Place}
 use Rattle.words.specs.declared.Refusal.{Refusal}
+use Rattle.words.specs.declared.Refusal.the-variants.{End}
 use Rattle.words.specs.declared.Written.{Written}
 use Rattle.words.specs.declared.Written.the-variants as W
 use Rattle.groups.specs.Begins.{Begins}
@@ -64,6 +66,12 @@ Excludes k = (s : List ℕ) (at : ℕ) →
 abbrev pub Exhausts : Kind → Type 0
 Exhausts k = (s : List ℕ) (at : ℕ) → Bytes s →
     ((why : Refusal) × (p : ℕ) × Row (width k) s at p why) ⊎ ((v : Value k) × (n : ℕ) × Begins (form k) (OfWidth k) s at v n)
+
+-- Where a byte stands at the place of a refusal, it decides: cut off just before it, the bytes are refused by 1, decided by their end; cut off
+-- just behind it, as they were.
+abbrev pub Decides : Kind → Type 0
+Decides k = (s : List ℕ) (at : ℕ) (why : Refusal) (p : Place) → Bytes s → p .0 < length s → ReadsAs k s at (refuse k why p)
+    → ReadsAs k (take (p .0) s) at (refuse k End p) × ReadsAs k (take (p .0 + 1) s) at (refuse k why p)
 
 -- A writer lays exactly the form of the number down.
 abbrev pub Writes : Kind → Type 0
@@ -190,6 +198,7 @@ pub record OfNumbers : Type 0 where
   pub refuses : (k : Kind) → Refuses k
   pub excludes : (k : Kind) → Excludes k
   pub exhausts : (k : Kind) → Exhausts k
+  pub decides : (k : Kind) → Decides k
   -- writers
   pub writes : (k : Kind) → Writes k
   -- lengths
