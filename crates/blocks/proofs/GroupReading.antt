@@ -1,47 +1,158 @@
--- What a reader of numbers says at a group's place is the reading of the group alone.
+-- What a reader of numbers says at a start before the end of a block, and what a step then says there.
 --
---   valued-as               where an answer r means a, and r is q, then a and what q means are one reading by a rule
---   read-alone              by any rule, reading at a group's place is reading the group alone, moved by that place
---   said-number, said-gap   what a step says of a group by its reading: the number or a gap, the count of bytes, and the place past it
-use Prim.Native.Nat.{ℕ, _+_, _<_}
+--   counted-as                  where an answer r means a, and r is q, then a and what q means are one reading by a rule
+--   reads-number                where the reading is a number, a step says it, with its count of bytes
+--   reads-none                  where it is refused, a step says what is `missing`
+--   decided-high                and all bytes before the one that decided it are 128 or more
+--   reads-one                   at a byte below 128, a step says the number of that byte alone
+--   one-unsigned                the number of one byte below 128, by the unsigned rule,
+--   one-above, one-below        and by the signed rule: below 64 the byte itself, else below zero
+--   decided-inside, run-ends    the byte that decided a refusal, and the end of the run from there on, are within the block
+--   missing-tail, missing-gap   what is missing, by the run from the byte that decided it on: a tail where it ends with the block, else a gap
+use Prim.Native.Nat.{ℕ, suc, _+_, _-_, _≤_, _<_}
 use mathlib.Core.Path.{_≡_, refl, ap, sym, _∙_}
-use mathlib.Core.List.{List}
+use mathlib.Core.List.{List, [], _∷_}
+use mathlib.Core.Bool.{true, false}
 use native.Mathlib.Omega.{arith}
-use lib.ListN.{length, take, drop, length-drop}
-use lib.Seq.{getD-drop}
-use Rattle.words.specs.Answer.{Answer, gives, refused, Why, moved}
+use borrow.Author.Tests.{eq-eqb, ne-eqb}
+use lib.Dec.{eqb}
+use lib.IntN.{ℤ, pos, negsuc}
+use lib.ListN.{length, getD, take, drop, length-drop}
+use lib.Seq.{getD-drop, drop-drop, drop-cons, length-take-le}
+use Rattle.words.specs.Answer.{pick, Answer, gives, refused, Why, becauseAt, moved}
+use Rattle.words.specs.declared.Refusal.{Refusal}
+use Rattle.words.proofs.Cases.{by-order}
+use Rattle.words.proofs.OneMeaning.{apart, given-value, given-count}
 use Rattle.groups.specs.Group.{Bytes, run}
 use Rattle.groups.specs.Width.{Width, reading, read}
-use Rattle.groups.proofs.Rows.{read-from}
-use Rattle.groups.proofs.Stands.{reading-alone}
+use Rattle.groups.proofs.Run.{run-low, run-within, run-drop}
+use Rattle.groups.proofs.OneByte.{digits-one, reading-one}
+use Rattle.groups.proofs.Rows.{read-from, read-decided}
+use Rattle.groups.proofs.FromWalk.{Sound}
+use Rattle.groups.proofs.Stands.{read-stands, stands-through, reading-alone}
 use Rattle.uleb128.specs.Unsigned.{u64}
+use Rattle.uleb128.proofs.Widths as U
 use Rattle.sleb128.specs.Signed.{i64}
-use Rattle.blocks.specs.Block.{Val, unsigned, signed, number, gap, valued, readBy, says}
-use Rattle.blocks.specs.Inner.{readAt}
+use Rattle.sleb128.proofs.Widths as S
+use Rattle.blocks.specs.Block.{Val, unsigned, signed, Stepped, number, gap, tail, valued, readBy, says}
+use Rattle.blocks.specs.Inner.{counted, readAt, standing, missing, InRun}
 use Rattle.blocks.specs.declared.Rule.{Rule}
 use Rattle.blocks.specs.declared.Rule.the-variants.{Unsigned, Signed}
+use Rattle.blocks.proofs.HighRun.{run-inside}
 
-pub valued-as : {A R : Type 0} (meaning : R → Answer (A × ℕ)) (f : A → Val) {a : Answer (A × ℕ)} {r q : R} → meaning r ≡ a → r ≡ q → valued f (meaning q) ≡ valued f a
-valued-as meaning f e g = ap (valued f) (ap meaning (sym g) ∙ e)
+pub counted-as : {A R : Type 0} (meaning : R → Answer (A × ℕ)) (f : A → Val) {a : Answer (A × ℕ)} {r q : R} → meaning r ≡ a → r ≡ q
+    → counted f (meaning q) ≡ counted f a
+counted-as meaning f e g = ap (counted f) (ap meaning (sym g) ∙ e)
 
 valued-moved : {A : Type 0} (f : A → Val) (n : ℕ) (a : Answer (A × ℕ)) → valued f (moved n a) ≡ moved n (valued f a)
 valued-moved f n (gives v) = refl
 valued-moved f n (refused k) = refl
 
-module _ (s : List ℕ) (p : ℕ) (bytes : Bytes s) (h : p + run (drop p s) < length s) where
-  whole : {A : Type 0} (f : A → Val) (w : Width A) → valued f (read w s p) ≡ moved p (valued f (reading w (take (run (drop p s) + 1) (drop p s))))
-  whole f w =
-      let bytes-from : Bytes (drop p s) = λ i. rw (getD-drop p s i 0) (bytes (p + i)) in
-      ap (valued f) (read-from w s p (omega arith) (reading-alone w (drop p s) bytes-from (omega (arith, length-drop p s))))
-      ∙ valued-moved f p (reading w (take (run (drop p s) + 1) (drop p s)))
+-- what was counted was read
+counted-gave : {A : Type 0} (f : A → Val) (a : Answer (A × ℕ)) {v : Val} {n : ℕ} → counted f a ≡ gives (v, n) → (u : A) × (a ≡ gives (u, n)) × (f u ≡ v)
+counted-gave f (gives u) e = (u .0, ap (λ (n : ℕ). gives (u .0, n)) (given-count e), given-value e)
+counted-gave f (refused k) e = apart (sym e)
 
-  pub read-alone : (rule : Rule) → readAt rule s p ≡ moved p (readBy rule (take (run (drop p s) + 1) (drop p s)))
-  read-alone Unsigned = whole unsigned u64
-  read-alone Signed = whole signed i64
+counted-none : {A : Type 0} (f : A → Val) (a : Answer (A × ℕ)) {k : Why} → counted f a ≡ refused k → a ≡ refused k
+counted-none f (gives u) e = apart e
+counted-none f (refused j) {k} e = let i : j ≡ k = cc in rw i
 
-module _ {a : Answer Val} {n q : ℕ} (p : ℕ) (past : q ≡ p + n) where
-  pub said-number : {v : Val} → a ≡ gives v → number v n q ≡ says a n p
-  said-number e = rw (e, past)
+module _ (s : List ℕ) (p : ℕ) where
+  -- what a step says at a start by a width's reading of the group there: `standing` at each rule
+  abbrev stood : {A : Type 0} → (A → Val) → Width A → Stepped
+  stood f w =
+      pick (eqb (run (drop p s)) (length (drop p s))) (tail (run (drop p s)) p)
+      (says (moved p (valued f (reading w (take (run (drop p s) + 1) (drop p s))))) (length (take (run (drop p s) + 1) (drop p s))) p)
 
-  pub said-gap : {k : Why} → a ≡ refused k → gap k n q ≡ says a n p
-  said-gap e = rw (e, past)
+  module _ (bytes : Bytes s) {A : Type 0} (f : A → Val) (w : Width A) where
+    -- a group read where it stands is read as it is alone
+    group-says : p + run (drop p s) < length s → stood f w ≡ says (valued f (read w s p)) (run (drop p s) + 1) p
+    group-says h =
+        let ne : run (drop p s) ≡ length (drop p s) → ⊥ = λ e. omega (arith, length-drop p s) in
+        let from : Bytes (drop p s) = λ i. rw (getD-drop p s i 0) (bytes (p + i)) in
+        let whole : valued f (read w s p) ≡ moved p (valued f (reading w (take (run (drop p s) + 1) (drop p s)))) =
+        ap (valued f) (read-from w s p (omega arith) (reading-alone w (drop p s) from (omega (arith, length-drop p s))))
+        ∙ valued-moved f p (reading w (take (run (drop p s) + 1) (drop p s))) in
+        rw (ne-eqb (run (drop p s)) (length (drop p s)) ne, length-take-le (run (drop p s) + 1) (drop p s) (omega (arith, length-drop p s)), whole)
+
+    number-says : Sound w → {v : Val} {n : ℕ} → counted f (read w s p) ≡ gives (v, n) → (p + n ≤ length s) × (stood f w ≡ number v n (p + n))
+    number-says sound e =
+        let given = counted-gave f (read w s p) e in
+        let through = stands-through (read-stands w s p sound bytes (given .1)) in
+        (omega (arith, through), group-says (through .1) ∙ rw (given .1, given .2, through .0))
+
+    none-says : p ≤ length s → {k : Why} → counted f (read w s p) ≡ refused k → stood f w ≡ missing s p k
+    unfolding missing
+    none-says here e =
+        by-order (run (drop p s)) (length (drop p s))
+        (λ l.
+        let ne : run (drop p s) ≡ length (drop p s) → ⊥ = λ q. omega arith in
+        group-says (omega (arith, length-drop p s)) ∙ rw (counted-none f (read w s p) e, ne-eqb (run (drop p s)) (length (drop p s)) ne))
+        (λ l. let all : run (drop p s) ≡ length (drop p s) = omega (arith, run-within (drop p s)) in rw (eq-eqb (run (drop p s)) (length (drop p s)) all))
+
+  module _ (bytes : Bytes s) where
+    pub reads-number : (rule : Rule) {v : Val} {n : ℕ} → readAt rule s p ≡ gives (v, n) → (p + n ≤ length s) × (standing rule s p ≡ number v n (p + n))
+    unfolding standing
+    reads-number Unsigned = number-says bytes unsigned u64 (U.sound 10 1 (omega arith) (omega arith))
+    reads-number Signed = number-says bytes signed i64 S.sound
+
+    pub reads-none : (rule : Rule) → p ≤ length s → {k : Why} → readAt rule s p ≡ refused k → standing rule s p ≡ missing s p k
+    unfolding standing
+    reads-none Unsigned here = none-says bytes unsigned u64 here
+    reads-none Signed here = none-says bytes signed i64 here
+
+  decided : {A : Type 0} (f : A → Val) (w : Width A) → p ≤ length s → (why : Refusal) (q : ℕ) → counted f (read w s p) ≡ refused (becauseAt why q) → InRun s p q
+  decided f w here why q e =
+      let d = read-decided w s p here why q (counted-none f (read w s p) e) in
+      record { here = here; from = d .0; high = d .1 }
+
+  pub decided-high : (rule : Rule) → p ≤ length s → (why : Refusal) (q : ℕ) → readAt rule s p ≡ refused (becauseAt why q) → InRun s p q
+  decided-high Unsigned = decided unsigned u64
+  decided-high Signed = decided signed i64
+
+  pub reads-one : (rule : Rule) {v : Val} → p < length s → getD s p 0 < 128 → gives v ≡ readBy rule (getD s p 0 ∷ []) → number v 1 (p + 1) ≡ standing rule s p
+  unfolding standing
+  reads-one rule here low e =
+      let b = getD s p 0 in
+      let z : run (b ∷ drop (suc p) s) ≡ 0 = run-low b (drop (suc p) s) low in
+      let ne : 0 ≡ length (b ∷ drop (suc p) s) → ⊥ = λ a. omega arith in
+      rw (drop-cons s p 0 here, z, ne-eqb 0 (length (b ∷ drop (suc p) s)) ne, ← e)
+
+-- the number of one byte
+pub one-unsigned : (b : ℕ) → b < 128 → gives (unsigned b) ≡ readBy Unsigned (b ∷ [])
+one-unsigned b low = sym (ap (valued unsigned) (reading-one u64 (omega arith) b [] low) ∙ rw (digits-one b low))
+
+one-signed : (b : ℕ) → b < 128 → {v : ℤ} → i64 .value (b ∷ []) ≡ v → gives (signed v) ≡ readBy Signed (b ∷ [])
+one-signed b low e = sym (ap (valued signed) (reading-one i64 (omega arith) b [] low) ∙ rw e)
+
+pub one-above : (b : ℕ) → b < 64 → gives (signed (pos b)) ≡ readBy Signed (b ∷ [])
+one-above b h = one-signed b (omega arith) (S.one-above b h)
+
+pub one-below : (b : ℕ) → 64 ≤ b → b < 128 → gives (signed (negsuc (127 - b))) ≡ readBy Signed (b ∷ [])
+one-below b h low = one-signed b low (S.one-below b h low)
+
+pub decided-inside : {s : List ℕ} {p q : ℕ} → InRun s p q → q ≤ length s
+decided-inside {s} {p} r = omega (arith, r .high, run-inside s p (r .here))
+
+-- the run up to the byte that decided it, and from there on
+module _ {s : List ℕ} {p q passed more : ℕ} (r : InRun s p q) (d : passed ≡ q - p) (e : more ≡ run (drop q s)) where
+  run-on : passed + more ≡ run (drop p s)
+  run-on =
+      let j : p + (q - p) ≡ q = omega (arith, r .from) in
+      let b : drop (q - p) (drop p s) ≡ drop q s = drop-drop (q - p) p s ∙ rw j in
+      omega (arith, run-drop (drop p s) (q - p) (omega (arith, r .high)), ap run b)
+
+  pub run-ends : p + (passed + more) ≤ length s
+  run-ends = omega (arith, run-on, run-inside s p (r .here))
+
+  pub missing-tail : (k : Why) → length s ≤ p + (passed + more) → tail (passed + more) p ≡ missing s p k
+  unfolding missing
+  missing-tail k h =
+      let all : run (drop p s) ≡ length (drop p s) = omega (arith, run-on, run-within (drop p s), length-drop p s) in
+      rw (run-on, eq-eqb (run (drop p s)) (length (drop p s)) all)
+
+  pub missing-gap : {k : Why} {c : ℕ} → p + (passed + more) < length s → c ≡ p + (passed + more + 1) → gap k (passed + more + 1) c ≡ missing s p k
+  unfolding missing
+  missing-gap h f =
+      let ne : run (drop p s) ≡ length (drop p s) → ⊥ = λ a. omega (arith, run-on, length-drop p s) in
+      rw (f, run-on, ne-eqb (run (drop p s)) (length (drop p s)) ne)

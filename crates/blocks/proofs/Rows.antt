@@ -6,7 +6,7 @@
 --   step-not-a-start   where the test for a start fails, it is refused by 6
 --   step-tail          where no byte below 128 follows, it says Tail, with the count of the bytes that are left, and stays
 --   step-says          else, it says what is said of the group through the first byte below 128
---   step-group         an answer that says this, by that group's reading, is the step's
+--   step-standing      either way, what is `standing` there
 --   set-too-long       a set-down in a block above the limit is refused by 7
 --   set-past           past the end of the block, by 4
 --   set-front          at place 0, it stays there
@@ -19,13 +19,13 @@ use mathlib.Core.Bool.{true, false}
 use native.Mathlib.Omega.{arith}
 use borrow.Author.Tests.{lt-ltb, le-ltb, le-leb, lt-leb, eq-eqb, ne-eqb}
 use lib.ListN.{length, take, drop, length-drop}
-use lib.Seq.{length-take-le}
-use Rattle.words.specs.Answer.{Answer, gives, moved}
+use Rattle.words.specs.Answer.{gives}
 use Rattle.words.specs.declared.Count.{Count}
 use Rattle.words.specs.declared.Refusal.the-variants.{TooLong, Place, NotAStart, NoStart}
 use Rattle.groups.specs.Group.{run}
 use Rattle.groups.proofs.Run.{run-within}
-use Rattle.blocks.specs.Block.{isStart, Val, finished, readBy, says, saysBy, stepping, settingDown, blockLimit}
+use Rattle.blocks.specs.Block.{isStart, finished, saysBy, stepping, settingDown, blockLimit}
+use Rattle.blocks.specs.Inner.{standing}
 use Rattle.blocks.specs.Promise.{meansStep, Steps, SetsDown}
 use Rattle.blocks.specs.declared.Cursor.{Cursor}
 use Rattle.blocks.specs.declared.Rule.{Rule}
@@ -83,11 +83,10 @@ module _ (rule : Rule) (s : List ℕ) (p : ℕ) where
               ne-eqb (run (drop p s)) (length (drop p s)) ne,
             )
 
-        pub step-group : {r : Step} {a : Answer Val} {n : ℕ} → p + run (drop p s) < length s → n ≡ run (drop p s) + 1
-            → a ≡ moved p (readBy rule (take (run (drop p s) + 1) (drop p s))) → meansStep r ≡ says a n p → Steps rule s p r
-        step-group {a = a} h c e q =
-            let size = length-take-le (run (drop p s) + 1) (drop p s) (omega (arith, length-drop p s)) in
-            record { is = q ∙ ap (λ (i : ℕ). says a i p) (c ∙ sym size) ∙ ap (λ (b : Answer Val). says b (length (take (run (drop p s) + 1) (drop p s))) p) e ∙ sym (step-says h) }
+        pub step-standing : {asked : Rule} {r : Step} → rule ≡ asked → meansStep r ≡ standing asked s p → Steps rule s p r
+        unfolding stepping standing
+        step-standing a e =
+            record { is = e ∙ rw (← a, le-ltb blockLimit (length s) fits, le-ltb (length s) p (omega arith), lt-leb (length s) p here, starts) }
 
 module _ (s : List ℕ) (p : ℕ) where
   pub set-too-long : blockLimit < length s → SetsDown s p (D.Refused TooLong)

@@ -9,12 +9,14 @@ use words::Count;
 use words::Place;
 use words::Refusal;
 ghost use mathlib.Core.Path.{_≡_};
-ghost use Prim.Native.Nat.{_+_, _^_, _<_, _≤_};
+ghost use Prim.Native.Nat.{_+_, _-_, _^_, _<_, _≤_};
+ghost use mathlib.Core.List.{[], _∷_};
 ghost use lib.ListN.{length, drop};
+ghost use Rattle.words.specs.Answer.{gives, becauseAt};
 ghost use Rattle.groups.specs.Group.{run};
-ghost use Rattle.blocks.specs.Block.{isStart, says};
-ghost use Rattle.blocks.specs.Inner.{meansReading, ReadsBy};
-ghost use Rattle.blocks.specs.Promise.{meansStep, Steps, SetsDown};
+ghost use Rattle.blocks.specs.Block.{isStart, readBy};
+ghost use Rattle.blocks.specs.Inner.{ReadsBy, InRun, missing, standing};
+ghost use Rattle.blocks.specs.Promise.{meansValue, meansStep, Steps, SetsDown};
 
 // The most bytes of a block.
 pub const BLOCK_LIMIT: usize = 65536;
@@ -40,9 +42,9 @@ pub enum Step {
     Refused(Refusal),
 }
 
-// A group's reading: its number, or the reason why it has none and the place of the byte that decided it.
+// A reading: the number and its count of bytes, or the reason why there is none and the place of the byte that decided it.
 enum Reading {
-    Number(Value),
+    Number(Value, Count),
     Fault(Refusal, Place),
 }
 
@@ -99,25 +101,72 @@ fn read_by(rule: Rule, block: &[u8], at: usize) -> Reading
 {
     match rule {
         Rule::Unsigned => match read_u64(block, Place(at)) {
-            ReadU64::Number(v, _) => Reading::Number(Value::Unsigned(v)),
+            ReadU64::Number(v, count) => Reading::Number(Value::Unsigned(v), count),
             ReadU64::Refused(refusal, place) => Reading::Fault(refusal, place),
         },
         Rule::Signed => match read_i64(block, Place(at)) {
-            ReadI64::Number(v, _) => Reading::Number(Value::Signed(v)),
+            ReadI64::Number(v, count) => Reading::Number(Value::Signed(v), count),
             ReadI64::Refused(refusal, place) => Reading::Fault(refusal, place),
         },
     }
 }
 
-// What a step says of a group of count bytes with this reading: a number, or else a gap, over the whole group.
-fn group(reading: Reading, at: usize, count: usize) -> Step
-    requires { ⌜ at + count < 2 ^ 64 ⌝ }
-    ensures { λ r. ⌜ meansStep r ≡ says (meansReading reading) count at ⌝ }
+// The number of one byte below 128, by the rule.
+fn alone(rule: Rule, b: u8) -> Value
+    requires { ⌜ b < 128 ⌝ }
+    ensures { λ r. ⌜ gives (meansValue r) ≡ readBy rule (b ∷ []) ⌝ }
 {
-    let next = past(at, count);
-    match reading {
-        Reading::Number(value) => Step::Number(value, Count(count), next),
-        Reading::Fault(refusal, place) => Step::Gap(refusal, place, Count(count), next),
+    match rule {
+        Rule::Unsigned => Value::Unsigned(b as u64),
+        Rule::Signed => {
+            if b < 64 {
+                let v = b as i64;
+                return Value::Signed(v);
+            }
+            let up = 127 - b;
+            let m = up as i64;
+            Value::Signed(!m)
+        }
+    }
+}
+
+// How many bytes stand from a place up to another.
+fn between(from: usize, to: usize) -> usize
+    requires { ⌜ from ≤ to ⌝ }
+    ensures { λ r. ⌜ r ≡ to - from ⌝ }
+{
+    to - from
+}
+
+// What a step says where the reading is refused: a gap over the whole group, or a tail. All bytes before the one that decided it are
+// 128 or more, so the search for the group's end goes on from there.
+fn unread(block: &[u8], at: usize, refusal: Refusal, decided: Place) -> Step
+    requires { ⌜ InRun (now block) at (decided .0) ⌝ }
+    ensures { λ r. ⌜ meansStep r ≡ missing (now (block .entry)) at (becauseAt refusal (decided .0)) ⌝ }
+{
+    let from = decided.0;
+    let passed = between(at, from);
+    let more = high_run(block, from);
+    let high = passed + more;
+    let last = at + high;
+    if block.len() <= last {
+        return Step::Tail(Count(high), Cursor { place: Place(at) });
+    }
+    let count = high + 1;
+    Step::Gap(refusal, decided, Count(count), past(at, count))
+}
+
+// What a step says at a start before the block's end, in full: for groups of more than one byte, gaps and tails.
+fn long(block: &[u8], at: usize, rule: Rule) -> Step
+    requires { ⌜ at < length (now block) ⌝ }
+    ensures { λ r. ⌜ meansStep r ≡ standing rule (now (block .entry)) at ⌝ }
+{
+    match read_by(rule, block, at) {
+        Reading::Number(value, count) => {
+            let n = count.0;
+            Step::Number(value, Count(n), past(at, n))
+        }
+        Reading::Fault(refusal, decided) => unread(block, at, refusal, decided),
     }
 }
 
@@ -141,14 +190,16 @@ impl Cursor {
         if !starts {
             return Step::Refused(Refusal::NotAStart);
         }
-        let high = high_run(block, at);
-        let last = at + high;
-        if block.len() <= last {
-            return Step::Tail(Count(high), self);
+        let b = block[at];
+        let more = is_high_8_bit_set(b);
+        if !more {
+            return Step::Number(alone(rule, b), Count(1), past(at, 1));
         }
-        let count = high + 1;
-        let reading = read_by(rule, block, at);
-        group(reading, at, count)
+        // Called in two places, `long` stays a call, and a step is small enough to become part of its callers (docs/SPEED.md).
+        match rule {
+            Rule::Unsigned => long(block, at, Rule::Unsigned),
+            Rule::Signed => long(block, at, Rule::Signed),
+        }
     }
 }
 

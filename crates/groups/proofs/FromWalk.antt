@@ -14,6 +14,7 @@
 --   closed-large                        such a group's last byte is at the greatest length and not allowed: refusal 2, decided by that byte
 --   closed-many                         it isn't too large, and its last byte isn't the first and is one too many: refusal 3, decided by that byte
 --   closed-number                       it isn't too large and has none too many: the value and the count
+--   closed-several                      such a group has high bytes, where no byte below 128 stands at the place
 --   closed-digits                       its digits are sum + weight * last
 --   closed-below                        sum is below weight
 --   closed-limit                        its digits are below 128 to the k, times top + 1, where high is at most k, and at k last is at most top
@@ -21,10 +22,11 @@ use Prim.Native.Nat.{ℕ, _+_, _-_, _*_, _^_, _≤_, _<_}
 use mathlib.Core.Path.{_≡_, refl, sym, _∙_, subst}
 use mathlib.Core.List.{List}
 use mathlib.Core.Bool.{true, false}
-use native.Mathlib.Nat.{mod-eq-of-lt}
+use native.Mathlib.Nat.{add-zero, mod-eq-of-lt}
 use native.Mathlib.Omega.{arith}
 use borrow.Author.Tests.{lt-ltb, le-ltb, le-leb, lt-leb, eq-eqb, ne-eqb}
 use lib.ListN.{length, getD, take, drop, length-drop}
+use lib.Seq.{getD-drop}
 use Rattle.words.specs.Answer.{gives, refused, by-at}
 use Rattle.words.proofs.Cases.{by-order}
 use Rattle.words.proofs.Moved.{same-place}
@@ -146,6 +148,14 @@ module _ {s : List ℕ} {at sum weight high last : ℕ} (c : Closing s at sum we
   closed-digits =
       digits-take (drop at s) high (c .ends)
       ∙ rw (← (c .is), ← (c .sums), ← (c .weighs), mod-eq-of-lt (c .low))
+
+  pub closed-several : (at < length s → 128 ≤ getD s at 0) → 0 < high
+  closed-several h =
+      by-order 0 high (λ l. l)
+      (λ l.
+      let z : high ≡ 0 = omega arith in
+      let b : last ≡ getD s at 0 = c .is ∙ rw (z, getD-drop at s 0 0, add-zero at) in
+      absurd (omega (arith, h (omega (arith, closed-inside c)), c .low)))
 
   pub closed-below : sum < weight
   closed-below = omega (arith, digits-take-below (drop at s) high (omega (arith, c .ends)), c .sums, c .weighs)

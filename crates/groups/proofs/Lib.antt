@@ -1,5 +1,6 @@
 pub mod Run
 pub mod Rows
+pub mod OneByte
 pub mod WalkLoop
 pub mod FromWalk
 pub mod Spelling

@@ -14,6 +14,8 @@
 --   row-number                  one that has none too many: the value, and the count of the bytes through the first below 128
 --   read-past                   reading from a place past the end is refusal 4, decided by that place
 --   read-from                   reading from any other is reading the bytes from there on, moved by that place
+--   decided-in-run              where a reading is refused, all bytes before the one that decided it are 128 or more,
+--   read-decided                and so it is where reading from a place is
 --   reading-cases, read-cases   a thing from either case of a reading: a number, or one of the refusals
 --   due-kept, due-passed        `Due b a` where b is a, and where b is b′ and `Due b′ a`
 use Prim.Native.Nat.{ℕ, _+_, _-_, _≤_, _<_}
@@ -21,13 +23,14 @@ use mathlib.Core.Path.{_≡_, sym, _∙_}
 use mathlib.Core.List.{List}
 use mathlib.Core.Bool.{true, false, not}
 use native.Mathlib.Omega.{arith}
-use borrow.Author.Tests.{lt-ltb, le-ltb, le-leb, lt-leb, eq-eqb, ne-eqb, leb-true, ltb-true, not-true}
+use borrow.Author.Tests.{lt-ltb, le-ltb, le-leb, lt-leb, eq-eqb, ne-eqb, leb-true, ltb-true, eqb-true, not-true}
 use lib.Dec.{leb, ltb, eqb}
 use lib.ListN.{length, getD, take, drop}
 use Rattle.words.specs.Answer.{Answer, gives, refused, by-at, becauseAt, moved}
 use Rattle.words.specs.declared.Refusal.{Refusal}
 use Rattle.words.specs.declared.Refusal.the-variants.{End, Overflow, NotShortest, Place}
 use Rattle.words.proofs.Cases.{by-order, by-test, both-false, both-true}
+use Rattle.words.proofs.OneMeaning.{apart, decided-same}
 use Rattle.groups.specs.Group.{run}
 use Rattle.groups.specs.Width.{Width, runsOut, tooLarge, tooMany, reading, read, Due}
 use Rattle.groups.proofs.Run.{run-within}
@@ -138,6 +141,35 @@ module _ {A X : Type 0} (w : Width A) where
   read-cases s at value fault =
       by-order (length s) at (λ h. fault Place at (read-past w s at h))
       (λ h. reading-cases (drop at s) (λ v n e. value v n (read-from w s at h e)) (λ why p e. fault why (at + p) (read-from w s at h e)))
+
+-- where a reading is refused, the run goes through to the byte that decided it
+module _ {A : Type 0} (w : Width A) where
+  pub decided-in-run : (l : List ℕ) (why : Refusal) (j : ℕ) → reading w l ≡ refused (becauseAt why j) → j ≤ run l
+  unfolding reading runsOut
+  decided-in-run l why j e =
+      by-test (runsOut w l)
+      (λ o.
+      let q : reading w l ≡ refused (becauseAt End (length l)) = rw o in
+      omega (arith, eqb-true (run l) (length l) (both-true (eqb (run l) (length l)) (ltb (run l) (w .most)) o .0), decided-same End why (sym q ∙ e) .1))
+      (λ o. by-test (tooLarge w l)
+      (λ t.
+      let q : reading w l ≡ refused (becauseAt Overflow (w .most - 1)) = rw (o, t) in
+      omega (arith, when-large w l t .0, decided-same Overflow why (sym q ∙ e) .1))
+      (λ t. by-test (tooMany w l)
+      (λ m.
+      let q : reading w l ≡ refused (becauseAt NotShortest (run l)) = rw (o, t, m) in
+      omega (arith, decided-same NotShortest why (sym q ∙ e) .1))
+      (λ m.
+      let q : reading w l ≡ gives (w .value (take (run l + 1) l), run l + 1) = rw (o, t, m) in
+      apart (sym q ∙ e))))
+
+  pub read-decided : (s : List ℕ) (at : ℕ) → at ≤ length s → (why : Refusal) (q : ℕ) → read w s at ≡ refused (becauseAt why q)
+      → (at ≤ q) × (q ≤ at + run (drop at s))
+  read-decided s at h why q e =
+      reading-cases w (drop at s) (λ v n g. apart (sym (read-from w s at h g) ∙ e))
+      (λ k j g.
+      let i : at + j ≡ q = decided-same k why (sym (read-from w s at h g) ∙ e) .1 in
+      (omega arith, omega (arith, decided-in-run (drop at s) k j g)))
 
 -- an answer keeps a promise where what is promised is the same, and so does one that keeps another promise of the same
 module _ {A : Type 0} {b : Answer A} where

@@ -3,6 +3,7 @@
 --   run-low, run-high         a first byte below 128 makes the run 0, a high one makes it one longer than that of the rest
 --   run-within                the run is no longer than the bytes
 --   in-run, at-run            the bytes that it counts are high, and the one behind them is below 128
+--   run-drop                  behind some of the bytes that it counts, the run is shorter by as many
 --   run-more, run-ends        where the run is at least i, a high byte at i makes it longer, and one below 128 makes it i
 --   high-run, run-take-high   the first j bytes are high exactly where the run is at least j
 --   high-full, full-high      all the bytes are high exactly where the run is as long as they are
@@ -20,7 +21,7 @@ use native.Mathlib.Nat.{mul-add, mul-assoc, mul-le-mul-left, pow-succ', pow-le-p
 use native.Mathlib.Numerals.{add-one}
 use native.Mathlib.Omega.{arith}
 use borrow.Author.Tests.{lt-ltb, le-ltb}
-use lib.ListN.{length, getD, take}
+use lib.ListN.{length, getD, take, drop}
 use lib.Seq.{take-suc, length-take-le, getD-take, take-length}
 use Rattle.words.proofs.Cases.{by-order}
 use Rattle.groups.specs.Group.{High, run, digits}
@@ -49,6 +50,15 @@ in-run (b ∷ s) zero h =
 in-run (b ∷ s) (suc i) h =
     by-order b 128 (λ l. let e : run (b ∷ s) ≡ 0 = run-low b s l in absurd (omega arith))
     (λ l. let e : run (b ∷ s) ≡ suc (run s) = run-high b s l in in-run s i (omega arith))
+
+-- some of them left out
+pub run-drop : (s : List ℕ) (i : ℕ) → i ≤ run s → run s ≡ i + run (drop i s)
+unfolding run
+run-drop s zero h = omega arith
+run-drop [] (suc i) h = absurd (omega arith)
+run-drop (b ∷ s) (suc i) h =
+    by-order b 128 (λ l. let e : run (b ∷ s) ≡ 0 = run-low b s l in absurd (omega arith))
+    (λ l. let e : run (b ∷ s) ≡ suc (run s) = run-high b s l in omega (arith, run-drop s i (omega arith)))
 
 -- and the one behind them is below
 pub at-run : (s : List ℕ) → run s < length s → getD s (run s) 0 < 128

@@ -6,6 +6,7 @@
 --   large-behind               bytes behind a group leave row 2's test as it is
 --   reading-behind             a group with bytes behind it is read by its own bytes: rows 2 and 3, else its value and length
 --   stands-read, read-stands   from the group to the reading, and back
+--   stands-through             such a group goes through the first byte below 128, which is there
 --   form-read                  where the bytes begin with a form that the width accepts, with its value, the number is read
 --   read-form                  and back, from a group that is such a form
 --   count-within               a group that stands so has at most the most bytes
@@ -17,7 +18,7 @@ use mathlib.Core.List.{List, [], _∷_, _++_, append-nil}
 use mathlib.Core.Bool.{Bool, true, false}
 use native.Mathlib.Numerals.{add-one}
 use native.Mathlib.Omega.{arith}
-use lib.ListN.{length, getD, take, drop, take-append-drop, length-append, List·getD-append}
+use lib.ListN.{length, getD, take, drop, take-append-drop, length-drop, length-append, List·getD-append}
 use lib.Seq.{take-append-seam, getD-drop}
 use Rattle.words.specs.Answer.{pick, Answer, gives, refused, by-at, Why}
 use Rattle.words.proofs.Cases.{by-order, clash}
@@ -130,6 +131,13 @@ module _ {A : Type 0} (w : Width A) (s : List ℕ) (at : ℕ) where
           value = p .0;
           count = p .1;
         }
+
+pub stands-through : {A : Type 0} {w : Width A} {s : List ℕ} {at : ℕ} {v : A} {n : ℕ} → Stands w s at v n
+    → (n ≡ run (drop at s) + 1) × (at + run (drop at s) < length s)
+stands-through {s = s} {at = at} g =
+    let e : run (drop at s) ≡ run (g .group) = ap run (g .begins) ∙ run-behind (g .rest) (g .is-group) in
+    let l : length (drop at s) ≡ length (g .group) + length (g .rest) = ap length (g .begins) ∙ length-append (g .group) (g .rest) in
+    (omega (arith, group-length (g .is-group), g .count), omega (arith, group-length (g .is-group), length-drop at s))
 
 module _ {A : Type 0} (w : Width A) {form : A → List ℕ} {OfWidth : A → Type 0} (s : List ℕ) (at : ℕ) {v : A} {n : ℕ} where
   pub form-read : Begins form OfWidth s at v n → Group (form v) × (tooLarge w (form v) ≡ false) × (tooMany w (form v) ≡ false) → w .value (form v) ≡ v

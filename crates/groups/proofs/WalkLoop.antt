@@ -1,15 +1,15 @@
 -- The walk from a start on: what its loop holds, and what is answered at each way out of it. A high byte is 128 or more.
 --
---   WalkedSoFar s at place high sum weight   high ones stand from the place at to place, their count high, nine at most; they sum to sum, and
---                                            the next one weighs weight
---   byte-at, byte-inside                     what stands at place in s is at high among the bytes from the place at on, and within them
---   none-walked                              so it is at the start, with no byte
---   part-fits, weight-fits                   with eight of them at most, the next sum is below 2 to the 63 and the next weight below 2 to the 64
---   one-walked                               so it is behind one high byte more
---   walk-closes                              a byte below 128: `Closed`
---   walk-overruns                            a tenth high byte: `Long`
---   walk-runs-dry                            the end of the bytes: `Open`
---   walk-past                                a start past the end: `Past`
+--   WalkedSoFar s at high sum weight   high ones stand from the place at on, their count high, nine at most; they sum to sum, and the next one
+--                                      weighs weight
+--   byte-at, byte-inside               what stands at place in s is at high among the bytes from the place at on, and within them
+--   none-walked                        so it is at the start, with no byte
+--   part-fits, weight-fits             with eight of them at most, the next sum is below 2 to the 63 and the next weight below 2 to the 64
+--   one-walked                         so it is behind one high byte more
+--   walk-closes                        a byte below 128: `Closed`
+--   walk-overruns                      a tenth high byte: `Long`
+--   walk-runs-dry                      the end of the bytes: `Open`
+--   walk-past                          a start past the end: `Past`
 use Prim.Native.Nat.{ℕ, suc, _+_, _*_, _%_, _^_, _≤_, _<_}
 use mathlib.Core.Path.{_≡_, refl, _∙_}
 use mathlib.Core.List.{List}
@@ -25,9 +25,8 @@ use Rattle.groups.specs.declared.Walked.the-variants.{Past, Open, Long, 
 use Rattle.groups.proofs.Run.{run-within, run-more, run-ends, digits-take, digits-take-below, pow-up}
 
 -- what the loop has done: the high bytes passed, what they sum to, and what the next one weighs
-pub record WalkedSoFar (s : List ℕ) (at place high sum weight : ℕ) : Type 0 where
-  pub here : place ≡ at + high
-  pub within : place ≤ length s
+pub record WalkedSoFar (s : List ℕ) (at high sum weight : ℕ) : Type 0 where
+  pub within : at + high ≤ length s
   pub few : high ≤ 9
   pub passed : high ≤ run (drop at s)
   pub weighs : weight ≡ 128 ^ high
@@ -40,11 +39,11 @@ module _ (s : List ℕ) (at : ℕ) where
   pub byte-inside : (place high : ℕ) → place ≡ at + high → place < length s → high < length (drop at s)
   byte-inside place high e h = rw (length-drop at s) (omega arith)
 
-  pub none-walked : at ≤ length s → WalkedSoFar s at at 0 0 1
+  pub none-walked : at ≤ length s → WalkedSoFar s at 0 0 1
   unfolding digits
-  none-walked h = record { here = omega arith; within = h; few = omega arith; passed = omega arith; weighs = refl; sums = refl }
+  none-walked h = record { within = omega arith; few = omega arith; passed = omega arith; weighs = refl; sums = refl }
 
-  module _ {place high sum weight : ℕ} (g : WalkedSoFar s at place high sum weight) where
+  module _ {high sum weight : ℕ} (g : WalkedSoFar s at high sum weight) where
     -- the sum is below the weight, so that seven bits more stay below 128 times it
     sum-below : sum < weight
     sum-below =
@@ -61,27 +60,29 @@ module _ (s : List ℕ) (at : ℕ) where
         let p : 128 ^ suc high ≤ 128 ^ 9 = pow-up (suc high) 9 (omega arith) in
         omega (arith, pow-succ' 128 high)
 
-    module _ (there : place < length s) where
-      byte-there : getD (drop at s) high 0 ≡ getD s place 0
-      byte-there = byte-at place high (g .here)
+    module _ (there : at + high < length s) where
+      byte-there : getD (drop at s) high 0 ≡ getD s (at + high) 0
+      byte-there = byte-at (at + high) high refl
 
-      pub one-walked : 128 ≤ getD s place 0 → high < 9
-          → WalkedSoFar s at (place + 1) (high + 1) (sum + weight * (getD s place 0 % 128)) (weight * 128)
+      inside : high < length (drop at s)
+      inside = byte-inside (at + high) high refl there
+
+      pub one-walked : 128 ≤ getD s (at + high) 0 → high < 9
+          → WalkedSoFar s at (high + 1) (sum + weight * (getD s (at + high) 0 % 128)) (weight * 128)
       one-walked h f = record {
-        here = omega arith;
         within = omega arith;
         few = omega arith;
-        passed = rw add-one (run-more (drop at s) high (g .passed) (byte-inside place high (g .here) there) (rw byte-there h));
+        passed = rw add-one (run-more (drop at s) high (g .passed) inside (rw byte-there h));
         weighs = rw (add-one, g .weighs) (omega (arith, pow-succ' 128 high));
         sums =
-            rw (digits-take (drop at s) high (byte-inside place high (g .here) there), byte-there, ← (g .sums), ← (g .weighs));
+            rw (digits-take (drop at s) high inside, byte-there, ← (g .sums), ← (g .weighs));
       }
 
-      pub walk-closes : getD s place 0 < 128 → Walks s at (Closed sum weight (record { 0 = high }) (getD s place 0))
+      pub walk-closes : getD s (at + high) 0 < 128 → Walks s at (Closed sum weight (record { 0 = high }) (getD s (at + high) 0))
       unfolding walked walking
       walk-closes h =
           let e : run (drop at s) ≡ high = run-ends (drop at s) high (g .passed) (rw byte-there h) in
-          let ne : high ≡ length (drop at s) → ⊥ = λ q. omega (arith, byte-inside place high (g .here) there) in
+          let ne : high ≡ length (drop at s) → ⊥ = λ q. omega (arith, inside) in
           record {
             is =
                 rw (
@@ -95,14 +96,14 @@ module _ (s : List ℕ) (at : ℕ) where
                 );
           }
 
-      pub walk-overruns : 128 ≤ getD s place 0 → 8 < high → Walks s at Long
+      pub walk-overruns : 128 ≤ getD s (at + high) 0 → 8 < high → Walks s at Long
       unfolding walked walking
       walk-overruns h f =
           let e : suc high ≤ run (drop at s) =
-          run-more (drop at s) high (g .passed) (byte-inside place high (g .here) there) (rw byte-there h) in
+          run-more (drop at s) high (g .passed) inside (rw byte-there h) in
           record { is = rw (le-ltb (length s) at (omega arith), le-leb 10 (run (drop at s)) (omega arith)) }
 
-    pub walk-runs-dry : length s ≤ place → Walks s at (Open (record { 0 = high }))
+    pub walk-runs-dry : length s ≤ at + high → Walks s at (Open (record { 0 = high }))
     unfolding walked walking
     walk-runs-dry h =
         let n : length (drop at s) ≡ high = length-drop at s ∙ omega arith in

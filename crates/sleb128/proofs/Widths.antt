@@ -4,20 +4,24 @@
 --   allowed                 a last byte is allowed there exactly where it says 0
 --   one-too-many            a last byte is one too many exactly where it and the one before it say less than 64
 --   spells                  the width's rules are those of spelling
+--   one-above, one-below    the value of one byte: itself below 64, and from there on -m-1 for its complement m
 --   pow-seven, half-seven   2 to the 7k is 128 to the k, and half of 2 to the 7(k + 1) is 64 times 128 to the k
-use Prim.Native.Nat.{ℕ, zero, suc, _+_, _-_, _*_, _%_, _^_, _<_}
-use mathlib.Core.Path.{_≡_, refl, sym, _∙_}
+use Prim.Native.Nat.{ℕ, zero, suc, _+_, _-_, _*_, _%_, _^_, _≤_, _<_}
+use mathlib.Core.Path.{_≡_, refl, ap, sym, _∙_}
+use mathlib.Core.List.{[], _∷_}
 use mathlib.Core.Bool.{Bool, true, false}
 use native.Mathlib.Nat.{mul-suc, mul-comm, pow-suc}
 use native.Mathlib.Omega.{arith}
 use borrow.Author.Tests.{lt-ltb, le-ltb, le-leb, lt-leb, eq-eqb, ne-eqb, ltb-false}
 use lib.Dec.{leb, ltb, eqb}
+use lib.IntN.{pos, negsuc}
 use lib.Pow.{pow-add}
 use Rattle.words.proofs.Cases.{by-order}
+use Rattle.groups.specs.Group.{digits}
 use Rattle.groups.specs.Form.{say}
 use Rattle.groups.proofs.FromWalk.{Sound}
 use Rattle.groups.proofs.Exact.{Spells}
-use Rattle.sleb128.specs.Signed.{i64}
+use Rattle.sleb128.specs.Signed.{twos, i64}
 
 pub sound : Sound i64
 sound = record { some = omega arith; low = λ b h. rw (ne-eqb b 0 (λ e. omega arith), ne-eqb b 127 (λ e. omega arith)) }
@@ -62,6 +66,19 @@ spells s =
       needed = λ before b h l.
           (λ e. ltb-false _ 64 (sym (one-too-many s before b h l) ∙ e), λ e. one-too-many s before b h l ∙ le-ltb _ 64 e);
     }
+
+-- a byte alone
+one-digits : (b : ℕ) → b < 128 → digits (b ∷ []) ≡ b
+unfolding digits
+one-digits b h = omega arith
+
+pub one-above : (b : ℕ) → b < 64 → i64 .value (b ∷ []) ≡ pos b
+unfolding twos
+one-above b h = rw (one-digits b (omega arith), lt-ltb b 64 h)
+
+pub one-below : (b : ℕ) → 64 ≤ b → b < 128 → i64 .value (b ∷ []) ≡ negsuc (127 - b)
+unfolding twos
+one-below b h l = rw (one-digits b l, le-ltb b 64 h, lt-ltb b 128 l) (ap negsuc (omega arith))
 
 -- seven bits a byte
 pub pow-seven : (k : ℕ) → 2 ^ (7 * k) ≡ 128 ^ k

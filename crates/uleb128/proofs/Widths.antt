@@ -1,10 +1,11 @@
 -- Unsigned widths: their rules are those of spelling, and what a walk's answer then says at a width. A high byte is 128 or more.
 --
 --   sound, spells   an unsigned width is sound, and its rules are those of spelling unsigned numbers
+--   says-one        a byte below 128: itself, and the count 1
 --   says-past       a place past the end: refusal 4, decided by that place
 --   says-end        only high bytes, fewer than the most: refusal 1, decided by the end of the bytes
 --   says-overrun    as many high bytes as the most: refusal 2, decided by the byte at the greatest length
---   says-large      a last byte at the greatest length that is above top: refusal 2, decided by that byte
+--   says-large      a last byte above the largest, which is top at the greatest length and 127 before it: refusal 2, decided by that byte
 --   says-many       a last byte 0 that isn't the first, within the greatest length: refusal 3, decided by that byte
 --   says-number     any other group within it: its number and count
 --   number-fits     that number fits 64 bits
@@ -15,12 +16,15 @@ use mathlib.Core.Bool.{false}
 use native.Mathlib.Nat.{pos-of-ne-zero}
 use native.Mathlib.Omega.{arith}
 use borrow.Author.Tests.{le-leb, lt-leb, eq-eqb, ne-eqb, eqb-false}
-use lib.ListN.{length, drop}
+use lib.ListN.{length, getD, drop}
 use Rattle.words.specs.Answer.{gives, refused, by-at}
+use Rattle.words.proofs.Cases.{by-order}
+use Rattle.words.proofs.Moved.{same-place}
 use Rattle.groups.specs.Group.{run}
 use Rattle.groups.specs.Width.{Reads}
 use Rattle.groups.proofs.Rows.{read-past, due-kept}
 use Rattle.groups.proofs.FromWalk.{Sound, Opening, Closing, closed-large, closed-many, closed-number, closed-digits, closed-limit, overrun-large, open-end}
+use Rattle.groups.proofs.OneByte.{digits-one, read-one}
 use Rattle.groups.proofs.Exact.{Spells}
 use Rattle.uleb128.specs.Unsigned.{unsigned}
 use Rattle.uleb128.specs.Inner.{Wide}
@@ -47,6 +51,9 @@ module _ (most top : ℕ) (wide : Wide most top) (s : List ℕ) (at : ℕ) where
   wide-sound : Sound (unsigned most top)
   wide-sound = sound most top (omega (arith, wide .some)) (wide .low)
 
+  pub says-one : at < length s → getD s at 0 < 128 → Reads (unsigned most top) s at (gives (getD s at 0, 1))
+  says-one there low = due-kept (read-one (unsigned most top) (wide .some) s at there low ∙ rw (digits-one (getD s at 0) low))
+
   pub says-past : length s < at → Reads (unsigned most top) s at (refused (by-at 4 at))
   says-past h = due-kept (read-past (unsigned most top) s at h)
 
@@ -57,8 +64,13 @@ module _ (most top : ℕ) (wide : Wide most top) (s : List ℕ) (at : ℕ) where
   says-overrun h m = due-kept (overrun-large (unsigned most top) wide-sound s at h m)
 
   module _ {sum weight high last : ℕ} (c : Closing s at sum weight high last) where
-    pub says-large : high + 1 ≡ most → top < last → Reads (unsigned most top) s at (refused (by-at 2 (at + high)))
-    says-large e h = due-kept (closed-large (unsigned most top) wide-sound s at c e (lt-leb last top h))
+    pub says-large : {largest : ℕ} → (high + 1 < most → largest ≡ 127) × (most ≤ high + 1 → largest ≡ top) → high + 1 ≤ most → largest < last
+        → Reads (unsigned most top) s at (refused (by-at 2 (at + (most - 1))))
+    says-large f m h =
+        by-order (high + 1) most (λ l. absurd (omega (arith, f .0 l, c .low)))
+        (λ l.
+        due-kept
+        (closed-large (unsigned most top) wide-sound s at c (omega arith) (lt-leb last top (omega (arith, f .1 l))) ∙ same-place (omega arith)))
 
     pub says-many : high < most → 0 < high → last < 1 → Reads (unsigned most top) s at (refused (by-at 3 (at + high)))
     says-many m h z =

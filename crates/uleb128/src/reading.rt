@@ -2,16 +2,30 @@
 // port of secure-foundations/vest, `leb128.rs`, `parse` (NOTICE).
 use crate::ReadU32;
 use crate::ReadU64;
+use bits::is_high_8_bit_set;
 use groups::Walked;
 use groups::walk;
 use words::Count;
 use words::Place;
 use words::Refusal;
 ghost use mathlib.Core.Path.{_≡_};
-ghost use Prim.Native.Nat.{_+_, _-_, _*_, _^_, _<_};
+ghost use Prim.Native.Nat.{_+_, _-_, _*_, _^_, _<_, _≤_};
+ghost use Rattle.groups.specs.Inner.{OneByte};
 ghost use Rattle.uleb128.specs.Unsigned.{unsigned};
-ghost use Rattle.uleb128.specs.Inner.{Wide};
+ghost use Rattle.uleb128.specs.Inner.{Wide, NotOneByte};
 ghost use Rattle.uleb128.specs.Promise.{Reads64, ReadsU64, ReadsU32};
+
+// Whether the byte at the place is a group of its own: one below 128. Most numbers take one byte, so a reader asks this first.
+fn one_byte(bytes: &[u8], at: usize) -> bool
+    ensures { λ r. ⌜ OneByte (now (bytes .entry)) at r ⌝ }
+{
+    if bytes.len() <= at {
+        return false;
+    }
+    let b = bytes[at];
+    let more = is_high_8_bit_set(b);
+    !more
+}
 
 // The number of a group: its high bytes sum to sum, and its last byte weighs weight.
 fn number(sum: u64, weight: u64, high: usize, last: u8) -> ReadU64
@@ -32,9 +46,19 @@ fn overflow(at: usize, most: usize) -> ReadU64
     ReadU64::Refused(Refusal::Overflow, Place(place))
 }
 
-// A number of at most most bytes, whose last byte at that length is at most top.
+// The largest last byte of a number of n bytes: top at the greatest length, and any before it.
+fn largest_last(n: usize, most: usize, top: u8) -> u8
+    ensures { λ r. ⌜ (n < most → r ≡ 127) × (most ≤ n → r ≡ top) ⌝ }
+{
+    if n < most {
+        return 127;
+    }
+    top
+}
+
+// A number of at most most bytes, whose last byte at that length is at most top. One byte alone was read before.
 fn read_width(bytes: &[u8], start: Place, most: usize, top: u8) -> ReadU64
-    requires { ⌜ Wide most top ⌝ }
+    requires { ⌜ Wide most top × NotOneByte (now bytes) (start .0) ⌝ }
     ensures { λ r. ⌜ Reads64 (unsigned most top) (now (bytes .entry)) (start .0) r ⌝ }
 {
     let at = start.0;
@@ -55,23 +79,17 @@ fn read_width(bytes: &[u8], start: Place, most: usize, top: u8) -> ReadU64
             last,
         } => {
             let high = count.0;
-            if most <= high {
+            let n = high + 1;
+            if most < n {
                 return overflow(at, most);
             }
-            if high < 1 {
-                return number(sum, weight, high, last);
+            let largest = largest_last(n, most, top);
+            if largest < last {
+                return overflow(at, most);
             }
-            let ends = at + high;
-            let place = Place(ends);
             if last < 1 {
-                return ReadU64::Refused(Refusal::NotShortest, place);
-            }
-            let n = high + 1;
-            if n < most {
-                return number(sum, weight, high, last);
-            }
-            if top < last {
-                return ReadU64::Refused(Refusal::Overflow, place);
+                let ends = at + high;
+                return ReadU64::Refused(Refusal::NotShortest, Place(ends));
             }
             number(sum, weight, high, last)
         }
@@ -83,6 +101,13 @@ fn read_width(bytes: &[u8], start: Place, most: usize, top: u8) -> ReadU64
 pub fn read_u64(bytes: &[u8], start: Place) -> ReadU64
     ensures { λ r. ⌜ ReadsU64 (now (bytes .entry)) (start .0) r ⌝ }
 {
+    let at = start.0;
+    let small = one_byte(bytes, at);
+    if small {
+        let b = bytes[at];
+        let v = b as u64;
+        return ReadU64::Number(v, Count(1));
+    }
     read_width(bytes, start, 10, 1)
 }
 
@@ -90,6 +115,13 @@ pub fn read_u64(bytes: &[u8], start: Place) -> ReadU64
 pub fn read_u32(bytes: &[u8], start: Place) -> ReadU32
     ensures { λ r. ⌜ ReadsU32 (now (bytes .entry)) (start .0) r ⌝ }
 {
+    let at = start.0;
+    let small = one_byte(bytes, at);
+    if small {
+        let b = bytes[at];
+        let v = b as u32;
+        return ReadU32::Number(v, Count(1));
+    }
     match read_width(bytes, start, 5, 15) {
         ReadU64::Number(v, n) => {
             let narrow = v as u32;

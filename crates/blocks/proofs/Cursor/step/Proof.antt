@@ -1,21 +1,25 @@
--- `blocks::Cursor::step` meets its promise: a law of `Rows` for each answer.
-use Prim.Native.Nat.{ℕ, _+_}
-use mathlib.Core.Path.{_≡_, refl, ap, sym, _∙_}
-use mathlib.Core.Bool.{true}
-use native.Mathlib.Omega.{arith}
+-- `blocks::Cursor::step` meets its promise: a law of `Rows` for each answer before a start, and from there what `long` or one byte says.
+use mathlib.Core.Path.{_≡_, refl, sym, _∙_}
 use borrow.Author.Tests.{not-true, not-false}
 use borrow.Author.Needs.{needs}
 use denote.Ref.{now}
-use Rattle.blocks.specs.Block.{isStart}
-use Rattle.blocks.proofs.HighRun.{run-inside}
-use Rattle.blocks.proofs.GroupReading.{read-alone}
-use Rattle.blocks.proofs.Rows.{step-too-long, step-past, step-finished, step-not-a-start, step-tail, step-group}
+use Rattle.bits.proofs.HighBit.{bit-clear}
+use Rattle.blocks.specs.Promise.{meansStep, Steps}
+use Rattle.blocks.specs.Inner.{standing}
+use Rattle.blocks.specs.declared.Rule.{Rule}
+use Rattle.blocks.specs.declared.Step.{Step}
+use Rattle.blocks.proofs.GroupReading.{reads-one}
+use Rattle.blocks.proofs.Rows.{step-too-long, step-past, step-finished, step-not-a-start, step-standing}
 use Rattle.blocks.proofs.Cursor.step.Statement.{statement}
 use Rattle.blocks.proofs.Cursor.step.Tie as tie
 
 -- past the test for a start
-starts : (c : tie.Else4) → isStart (now (c .before .before .before .before .before .before .before .args .block)) (c .before .before .before .before .before .before .before .args .self .place .0) ≡ true
-starts c = sym (c .before .is-start .ensures) ∙ not-false _ (c .if4 .left)
+abbrev asked : tie.Else4 → tie.Start
+asked c = c .before .before .before .before .before .before .before
+
+from-start : (c : tie.Else4) {rule : Rule} {r : Step} → let a = asked c .args in
+    a .rule ≡ rule → meansStep r ≡ standing rule (now (a .block)) (a .self .place .0) → Steps (a .rule) (now (a .block)) (a .self .place .0) r
+from-start c = step-standing _ _ _ (search needs) (search needs) (sym (c .before .is-start .ensures) ∙ not-false _ (c .if4 .left))
 
 returns : tie.Need-returns
 returns c = step-too-long _ _ _ (c .if1 .taken)
@@ -30,26 +34,28 @@ returns-4 : tie.Need-returns-4
 returns-4 c =
     step-not-a-start _ _ _ (search needs) (search needs) (sym (c .before .is-start .ensures) ∙ not-true _ (c .if4 .taken))
 
-add-last : tie.Need-add-last
-add-last c =
-    let a = c .before .before .before .before .before .before .before .before .args in
-    omega (arith, c .high-run .ensures, run-inside (a .block .now) (a .self .place .0) (search needs))
+alone-requires : tie.Need-alone-requires
+alone-requires c κs = bit-clear (c .before .is-high-8-bit-set .ensures) (c .if5 .taken)
 
 returns-5 : tie.Need-returns-5
 returns-5 c =
-    step-tail _ _ _ (search needs) (search needs) (starts (c .before .before)) _ _ (c .before .high-run .ensures) refl (rw (c .before .high-run .ensures) at (c .if5 .taken))
+    let tested = c .before .before .before in
+    from-start (tested .before .before) refl
+    (rw (c .past .ensures)
+    (reads-one _ _ _ (search needs) (bit-clear (tested .is-high-8-bit-set .ensures) (c .before .before .if5 .taken)) (c .before .alone .ensures)))
 
 returns-6 : tie.Need-returns-6
 returns-6 c =
-    let scanned = c .before .before .before in
-    let asked = scanned .before .before .before .before .before .before .before in
-    let inside = rw (scanned .high-run .ensures) at (c .before .before .if5 .left) in
-    let alone = read-alone _ _ (λ i. asked .shared-slice-known .given i .fits) inside (asked .before .args .rule) in
-    step-group _ _ _ (search needs) (search needs) (starts (scanned .before)) inside (ap (λ (n : ℕ). n + 1) (scanned .high-run .ensures))
-    (c .before .read-by .ensures .is ∙ alone) (c .group .ensures)
+    let read = c .before .before .before .before .before .before in
+    from-start read (c .before .enum-told .given .1) (c .long .ensures)
+
+returns-7 : tie.Need-returns-7
+returns-7 c =
+    let read = c .before .before .before .before .before .before in
+    from-start read (c .before .enum-told2 .given .1) (c .long2 .ensures)
 
 pub step-spec : {M : Type 1} → statement M
 step-spec =
     tie.close
-    (tie.spec returns returns-2 returns-3 (λ c κs. search needs) returns-4 (λ c κs. search needs) add-last returns-5
-    (λ c. search needs) (λ c κs. search needs) (λ c κs. search needs) returns-6)
+    (tie.spec returns returns-2 returns-3 (λ c κs. search needs) returns-4 (λ c. search needs) (λ c κs. search needs) alone-requires (λ c κs. search needs) returns-5
+    (λ c. search needs) (λ c κs. search needs) (λ c. search needs) (λ c κs. search needs) returns-6 returns-7)
