@@ -1,28 +1,24 @@
 -- What a reader of numbers says at a start before the end of a block, and what a step then says there.
 --
---   counted-as                  where an answer r means a, and r is q, then a and what q means are one reading by a rule
 --   reads-number                where the reading is a number, a step says it, with its count of bytes
 --   reads-none                  where it is refused, a step says what is `missing`
 --   decided-high                and all bytes before the one that decided it are 128 or more
 --   reads-one                   at a byte below 128, a step says the number of that byte alone
 --   one-unsigned                the number of one byte below 128, by the unsigned rule,
 --   one-above, one-below        and by the signed rule: below 64 the byte itself, else below zero
---   decided-inside, run-ends    the byte that decided a refusal, and the end of the run from there on, are within the block
+--   decided-inside, run-ends    the byte that decided a refusal, and the end of the run from there on, stand behind the start and within the block
 --   missing-tail, missing-gap   what is missing, by the run from the byte that decided it on: a tail where it ends with the block, else a gap
 use Prim.Native.Nat.{ℕ, suc, _+_, _-_, _≤_, _<_}
 use mathlib.Core.Path.{_≡_, refl, ap, sym, _∙_}
 use mathlib.Core.List.{List, [], _∷_}
-use mathlib.Core.Bool.{true, false}
 use native.Mathlib.Omega.{arith}
 use borrow.Author.Tests.{eq-eqb, ne-eqb}
-use lib.Dec.{eqb}
 use lib.IntN.{ℤ, pos, negsuc}
 use lib.ListN.{length, getD, take, drop, length-drop}
 use lib.Seq.{getD-drop, drop-drop, drop-cons, length-take-le}
-use Rattle.words.specs.Answer.{pick, Answer, gives, refused, Why, becauseAt, moved}
+use Rattle.words.specs.Answer.{Answer, gives, refused, Why, becauseAt, moved}
 use Rattle.words.specs.declared.Refusal.{Refusal}
 use Rattle.words.proofs.Cases.{by-order}
-use Rattle.words.proofs.OneMeaning.{apart, given-value, given-count}
 use Rattle.groups.specs.Group.{Bytes, run}
 use Rattle.groups.specs.Width.{Width, reading, read}
 use Rattle.groups.proofs.Run.{run-low, run-within, run-drop}
@@ -31,84 +27,51 @@ use Rattle.groups.proofs.Rows.{read-from, read-decided}
 use Rattle.groups.proofs.FromWalk.{Sound}
 use Rattle.groups.proofs.Stands.{read-stands, stands-through, reading-alone}
 use Rattle.uleb128.specs.Unsigned.{u64}
-use Rattle.uleb128.proofs.Widths as U
 use Rattle.sleb128.specs.Signed.{i64}
 use Rattle.sleb128.proofs.Widths as S
 use Rattle.blocks.specs.Block.{Val, unsigned, signed, Stepped, number, gap, tail, valued, readBy, says}
-use Rattle.blocks.specs.Inner.{counted, readAt, standing, missing, InRun}
+use Rattle.blocks.specs.Inner.{standing, missing, InRun}
 use Rattle.blocks.specs.declared.Rule.{Rule}
 use Rattle.blocks.specs.declared.Rule.the-variants.{Unsigned, Signed}
 use Rattle.blocks.proofs.HighRun.{run-inside}
-
-pub counted-as : {A R : Type 0} (meaning : R → Answer (A × ℕ)) (f : A → Val) {a : Answer (A × ℕ)} {r q : R} → meaning r ≡ a → r ≡ q
-    → counted f (meaning q) ≡ counted f a
-counted-as meaning f e g = ap (counted f) (ap meaning (sym g) ∙ e)
 
 valued-moved : {A : Type 0} (f : A → Val) (n : ℕ) (a : Answer (A × ℕ)) → valued f (moved n a) ≡ moved n (valued f a)
 valued-moved f n (gives v) = refl
 valued-moved f n (refused k) = refl
 
--- what was counted was read
-counted-gave : {A : Type 0} (f : A → Val) (a : Answer (A × ℕ)) {v : Val} {n : ℕ} → counted f a ≡ gives (v, n) → (u : A) × (a ≡ gives (u, n)) × (f u ≡ v)
-counted-gave f (gives u) e = (u .0, ap (λ (n : ℕ). gives (u .0, n)) (given-count e), given-value e)
-counted-gave f (refused k) e = apart (sym e)
-
-counted-none : {A : Type 0} (f : A → Val) (a : Answer (A × ℕ)) {k : Why} → counted f a ≡ refused k → a ≡ refused k
-counted-none f (gives u) e = apart e
-counted-none f (refused j) {k} e = let i : j ≡ k = cc in rw i
-
 module _ (s : List ℕ) (p : ℕ) where
-  -- what a step says at a start by a width's reading of the group there: `standing` at each rule
-  abbrev stood : {A : Type 0} → (A → Val) → Width A → Stepped
-  stood f w =
-      pick (eqb (run (drop p s)) (length (drop p s))) (tail (run (drop p s)) p)
-      (says (moved p (valued f (reading w (take (run (drop p s) + 1) (drop p s))))) (length (take (run (drop p s) + 1) (drop p s))) p)
-
-  module _ (bytes : Bytes s) {A : Type 0} (f : A → Val) (w : Width A) where
+  -- a rule's width, and how its numbers are told
+  module _ (bytes : Bytes s) {A : Type 0} (rule : Rule) (f : A → Val) (w : Width A) (is : (g : List ℕ) → readBy rule g ≡ valued f (reading w g)) where
     -- a group read where it stands is read as it is alone
-    group-says : p + run (drop p s) < length s → stood f w ≡ says (valued f (read w s p)) (run (drop p s) + 1) p
+    group-says : p + run (drop p s) < length s → standing rule s p ≡ says (valued f (read w s p)) (run (drop p s) + 1) p
+    unfolding standing
     group-says h =
+        let g = take (run (drop p s) + 1) (drop p s) in
         let ne : run (drop p s) ≡ length (drop p s) → ⊥ = λ e. omega (arith, length-drop p s) in
         let from : Bytes (drop p s) = λ i. rw (getD-drop p s i 0) (bytes (p + i)) in
-        let whole : valued f (read w s p) ≡ moved p (valued f (reading w (take (run (drop p s) + 1) (drop p s)))) =
-        ap (valued f) (read-from w s p (omega arith) (reading-alone w (drop p s) from (omega (arith, length-drop p s))))
-        ∙ valued-moved f p (reading w (take (run (drop p s) + 1) (drop p s))) in
-        rw (ne-eqb (run (drop p s)) (length (drop p s)) ne, length-take-le (run (drop p s) + 1) (drop p s) (omega (arith, length-drop p s)), whole)
+        let whole : valued f (read w s p) ≡ moved p (valued f (reading w g)) =
+        ap (valued f) (read-from w s p (omega arith) (reading-alone w (drop p s) from (omega (arith, length-drop p s)))) ∙ valued-moved f p (reading w g) in
+        rw (ne-eqb (run (drop p s)) (length (drop p s)) ne, is g, length-take-le (run (drop p s) + 1) (drop p s) (omega (arith, length-drop p s)), whole)
 
-    number-says : Sound w → {v : Val} {n : ℕ} → counted f (read w s p) ≡ gives (v, n) → (p + n ≤ length s) × (stood f w ≡ number v n (p + n))
-    number-says sound e =
-        let given = counted-gave f (read w s p) e in
-        let through = stands-through (read-stands w s p sound bytes (given .1)) in
-        (omega (arith, through), group-says (through .1) ∙ rw (given .1, given .2, through .0))
+    pub reads-number : Sound w → {v : A} {n : ℕ} → read w s p ≡ gives (v, n) → (p + n ≤ length s) × (standing rule s p ≡ number (f v) n (p + n))
+    reads-number sound e =
+        let through = stands-through (read-stands w s p sound bytes e) in
+        (omega (arith, through), group-says (through .1) ∙ rw (e, through .0))
 
-    none-says : p ≤ length s → {k : Why} → counted f (read w s p) ≡ refused k → stood f w ≡ missing s p k
-    unfolding missing
+    none-says : p ≤ length s → {k : Why} → read w s p ≡ refused k → standing rule s p ≡ missing s p k
+    unfolding standing missing
     none-says here e =
         by-order (run (drop p s)) (length (drop p s))
         (λ l.
         let ne : run (drop p s) ≡ length (drop p s) → ⊥ = λ q. omega arith in
-        group-says (omega (arith, length-drop p s)) ∙ rw (counted-none f (read w s p) e, ne-eqb (run (drop p s)) (length (drop p s)) ne))
+        group-says (omega (arith, length-drop p s)) ∙ rw (e, ne-eqb (run (drop p s)) (length (drop p s)) ne))
         (λ l. let all : run (drop p s) ≡ length (drop p s) = omega (arith, run-within (drop p s)) in rw (eq-eqb (run (drop p s)) (length (drop p s)) all))
 
-  module _ (bytes : Bytes s) where
-    pub reads-number : (rule : Rule) {v : Val} {n : ℕ} → readAt rule s p ≡ gives (v, n) → (p + n ≤ length s) × (standing rule s p ≡ number v n (p + n))
-    unfolding standing
-    reads-number Unsigned = number-says bytes unsigned u64 (U.sound 10 1 (omega arith) (omega arith))
-    reads-number Signed = number-says bytes signed i64 S.sound
+    pub reads-none : p ≤ length s → {k : Why} → read w s p ≡ refused k → {said : Stepped} → said ≡ missing s p k → said ≡ standing rule s p
+    reads-none here e q = q ∙ sym (none-says here e)
 
-    pub reads-none : (rule : Rule) → p ≤ length s → {k : Why} → readAt rule s p ≡ refused k → standing rule s p ≡ missing s p k
-    unfolding standing
-    reads-none Unsigned here = none-says bytes unsigned u64 here
-    reads-none Signed here = none-says bytes signed i64 here
-
-  decided : {A : Type 0} (f : A → Val) (w : Width A) → p ≤ length s → (why : Refusal) (q : ℕ) → counted f (read w s p) ≡ refused (becauseAt why q) → InRun s p q
-  decided f w here why q e =
-      let d = read-decided w s p here why q (counted-none f (read w s p) e) in
-      record { here = here; from = d .0; high = d .1 }
-
-  pub decided-high : (rule : Rule) → p ≤ length s → (why : Refusal) (q : ℕ) → readAt rule s p ≡ refused (becauseAt why q) → InRun s p q
-  decided-high Unsigned = decided unsigned u64
-  decided-high Signed = decided signed i64
+  pub decided-high : {A : Type 0} (w : Width A) → p ≤ length s → (why : Refusal) (q : ℕ) → read w s p ≡ refused (becauseAt why q) → InRun s p q
+  decided-high w here why q e = let d = read-decided w s p here why q e in record { here = here; from = d .0; high = d .1 }
 
   pub reads-one : (rule : Rule) {v : Val} → p < length s → getD s p 0 < 128 → gives v ≡ readBy rule (getD s p 0 ∷ []) → number v 1 (p + 1) ≡ standing rule s p
   unfolding standing
@@ -134,25 +97,28 @@ one-below b h low = one-signed b low (S.one-below b h low)
 pub decided-inside : {s : List ℕ} {p q : ℕ} → InRun s p q → q ≤ length s
 decided-inside {s} {p} r = omega (arith, r .high, run-inside s p (r .here))
 
--- the run up to the byte that decided it, and from there on
-module _ {s : List ℕ} {p q passed more : ℕ} (r : InRun s p q) (d : passed ≡ q - p) (e : more ≡ run (drop q s)) where
-  run-on : passed + more ≡ run (drop p s)
+-- the run from the byte that decided it on
+module _ {s : List ℕ} {p q more : ℕ} (r : InRun s p q) (e : more ≡ run (drop q s)) where
+  run-on : q + more ≡ p + run (drop p s)
   run-on =
       let j : p + (q - p) ≡ q = omega (arith, r .from) in
-      let b : drop (q - p) (drop p s) ≡ drop q s = drop-drop (q - p) p s ∙ rw j in
-      omega (arith, run-drop (drop p s) (q - p) (omega (arith, r .high)), ap run b)
+      let d : drop (q - p) (drop p s) ≡ drop q s = drop-drop (q - p) p s ∙ rw j in
+      omega (arith, r .from, run-drop (drop p s) (q - p) (omega (arith, r .high)), ap run d)
 
-  pub run-ends : p + (passed + more) ≤ length s
-  run-ends = omega (arith, run-on, run-inside s p (r .here))
+  pub run-ends : (p ≤ q + more) × (q + more ≤ length s)
+  run-ends = (omega (arith, r .from), omega (arith, run-on, run-inside s p (r .here)))
 
-  pub missing-tail : (k : Why) → length s ≤ p + (passed + more) → tail (passed + more) p ≡ missing s p k
-  unfolding missing
-  missing-tail k h =
-      let all : run (drop p s) ≡ length (drop p s) = omega (arith, run-on, run-within (drop p s), length-drop p s) in
-      rw (run-on, eq-eqb (run (drop p s)) (length (drop p s)) all)
+  module _ {high : ℕ} (d : high ≡ q + more - p) where
+    pub missing-tail : (k : Why) → length s ≤ q + more → tail high p ≡ missing s p k
+    unfolding missing
+    missing-tail k h =
+        let all : run (drop p s) ≡ length (drop p s) = omega (arith, run-on, run-within (drop p s), length-drop p s) in
+        let n : high ≡ run (drop p s) = omega (arith, run-on) in
+        rw (n, eq-eqb (run (drop p s)) (length (drop p s)) all)
 
-  pub missing-gap : {k : Why} {c : ℕ} → p + (passed + more) < length s → c ≡ p + (passed + more + 1) → gap k (passed + more + 1) c ≡ missing s p k
-  unfolding missing
-  missing-gap h f =
-      let ne : run (drop p s) ≡ length (drop p s) → ⊥ = λ a. omega (arith, run-on, length-drop p s) in
-      rw (f, run-on, ne-eqb (run (drop p s)) (length (drop p s)) ne)
+    pub missing-gap : {k : Why} {c : ℕ} → q + more < length s → c ≡ p + (high + 1) → gap k (high + 1) c ≡ missing s p k
+    unfolding missing
+    missing-gap h f =
+        let ne : run (drop p s) ≡ length (drop p s) → ⊥ = λ a. omega (arith, run-on, length-drop p s) in
+        let n : high ≡ run (drop p s) = omega (arith, run-on) in
+        rw (f, n, ne-eqb (run (drop p s)) (length (drop p s)) ne)

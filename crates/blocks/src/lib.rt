@@ -15,7 +15,7 @@ ghost use lib.ListN.{length, drop};
 ghost use Rattle.words.specs.Answer.{gives, becauseAt};
 ghost use Rattle.groups.specs.Group.{run};
 ghost use Rattle.blocks.specs.Block.{isStart, readBy};
-ghost use Rattle.blocks.specs.Inner.{ReadsBy, InRun, missing, standing};
+ghost use Rattle.blocks.specs.Inner.{InRun, missing, standing};
 ghost use Rattle.blocks.specs.Promise.{meansValue, meansStep, Steps, SetsDown};
 
 // The most bytes of a block.
@@ -40,12 +40,6 @@ pub enum Step {
     Tail(Count, Cursor),
     Finished(Cursor),
     Refused(Refusal),
-}
-
-// A reading: the number and its count of bytes, or the reason why there is none and the place of the byte that decided it.
-enum Reading {
-    Number(Value, Count),
-    Fault(Refusal, Place),
 }
 
 pub enum SetDown {
@@ -95,22 +89,6 @@ fn past(at: usize, count: usize) -> Cursor
     Cursor { place: Place(next) }
 }
 
-// What a reader of numbers says at the place, by the rule.
-fn read_by(rule: Rule, block: &[u8], at: usize) -> Reading
-    ensures { λ r. ⌜ ReadsBy rule (now (block .entry)) at r ⌝ }
-{
-    match rule {
-        Rule::Unsigned => match read_u64(block, Place(at)) {
-            ReadU64::Number(v, count) => Reading::Number(Value::Unsigned(v), count),
-            ReadU64::Refused(refusal, place) => Reading::Fault(refusal, place),
-        },
-        Rule::Signed => match read_i64(block, Place(at)) {
-            ReadI64::Number(v, count) => Reading::Number(Value::Signed(v), count),
-            ReadI64::Refused(refusal, place) => Reading::Fault(refusal, place),
-        },
-    }
-}
-
 // The number of one byte below 128, by the rule.
 fn alone(rule: Rule, b: u8) -> Value
     requires { ⌜ b < 128 ⌝ }
@@ -145,10 +123,9 @@ fn unread(block: &[u8], at: usize, refusal: Refusal, decided: Place) -> Step
     ensures { λ r. ⌜ meansStep r ≡ missing (now (block .entry)) at (becauseAt refusal (decided .0)) ⌝ }
 {
     let from = decided.0;
-    let passed = between(at, from);
     let more = high_run(block, from);
-    let high = passed + more;
-    let last = at + high;
+    let last = from + more;
+    let high = between(at, last);
     if block.len() <= last {
         return Step::Tail(Count(high), Cursor { place: Place(at) });
     }
@@ -161,12 +138,21 @@ fn long(block: &[u8], at: usize, rule: Rule) -> Step
     requires { ⌜ at < length (now block) ⌝ }
     ensures { λ r. ⌜ meansStep r ≡ standing rule (now (block .entry)) at ⌝ }
 {
-    match read_by(rule, block, at) {
-        Reading::Number(value, count) => {
-            let n = count.0;
-            Step::Number(value, Count(n), past(at, n))
-        }
-        Reading::Fault(refusal, decided) => unread(block, at, refusal, decided),
+    match rule {
+        Rule::Unsigned => match read_u64(block, Place(at)) {
+            ReadU64::Number(v, count) => {
+                let n = count.0;
+                Step::Number(Value::Unsigned(v), Count(n), past(at, n))
+            }
+            ReadU64::Refused(refusal, place) => unread(block, at, refusal, place),
+        },
+        Rule::Signed => match read_i64(block, Place(at)) {
+            ReadI64::Number(v, count) => {
+                let n = count.0;
+                Step::Number(Value::Signed(v), Count(n), past(at, n))
+            }
+            ReadI64::Refused(refusal, place) => unread(block, at, refusal, place),
+        },
     }
 }
 
@@ -195,7 +181,8 @@ impl Cursor {
         if !more {
             return Step::Number(alone(rule, b), Count(1), past(at, 1));
         }
-        // Called in two places, `long` stays a call, and a step is small enough to become part of its callers (docs/SPEED.md).
+        // Called in two places, `long` stays outside of the step, which so is small enough to become part of its callers
+        // (docs/SPEED.md).
         match rule {
             Rule::Unsigned => long(block, at, Rule::Unsigned),
             Rule::Signed => long(block, at, Rule::Signed),

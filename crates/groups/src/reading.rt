@@ -19,8 +19,9 @@ fn nine_at_most(count: usize) -> usize
 }
 
 // The loop of the source's `parse`: from the start through the first byte below 128, or through ten bytes, or to the end. Which
-// number that is, and whether it is refused, is for the width to say. The tenth byte weighs more than 64 bits hold and stands behind
-// the loop. How often that turns is unknown to the compiler, so it stays a loop, and small enough to become part of each reader.
+// number that is, and whether it is refused, is for the width to say. Seven bits of the tenth byte's weight don't fit 64 bits, so it
+// is asked behind the loop. How often that turns is unknown to the compiler: it stays a loop, small enough to become part of each
+// reader (docs/SPEED.md).
 pub fn walk(bytes: &[u8], start: Place) -> Walked
     ensures { λ r. ⌜ Walks (now (bytes .entry)) (start .0) r ⌝ }
 {

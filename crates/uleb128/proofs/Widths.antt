@@ -5,20 +5,23 @@
 --   says-past       a place past the end: refusal 4, decided by that place
 --   says-end        only high bytes, fewer than the most: refusal 1, decided by the end of the bytes
 --   says-overrun    as many high bytes as the most: refusal 2, decided by the byte at the greatest length
---   says-large      a last byte above the largest, which is top at the greatest length and 127 before it: refusal 2, decided by that byte
+--   large-there     a group that is too large has a byte at the greatest length,
+--   says-large      and is refused by 2, decided by that byte
+--   not-large       one that isn't: it is within the greatest length, and at that length its last byte is at most top
 --   says-many       a last byte 0 that isn't the first, within the greatest length: refusal 3, decided by that byte
 --   says-number     any other group within it: its number and count
 --   number-fits     that number fits 64 bits
 use Prim.Native.Nat.{ℕ, _+_, _-_, _*_, _^_, _≤_, _<_}
-use mathlib.Core.Path.{_≡_, refl, _∙_}
+use mathlib.Core.Path.{_≡_, refl, sym, _∙_}
 use mathlib.Core.List.{List}
-use mathlib.Core.Bool.{false}
+use mathlib.Core.Bool.{Bool, true, false}
 use native.Mathlib.Nat.{pos-of-ne-zero}
 use native.Mathlib.Omega.{arith}
-use borrow.Author.Tests.{le-leb, lt-leb, eq-eqb, ne-eqb, eqb-false}
+use borrow.Author.Tests.{lt-ltb, le-ltb, le-leb, lt-leb, eq-eqb, ne-eqb, ltb-true, ltb-false, eqb-false}
+use lib.Dec.{ltb}
 use lib.ListN.{length, getD, drop}
-use Rattle.words.specs.Answer.{gives, refused, by-at}
-use Rattle.words.proofs.Cases.{by-order}
+use Rattle.words.specs.Answer.{pick, either, gives, refused, by-at}
+use Rattle.words.proofs.Cases.{by-order, clash}
 use Rattle.words.proofs.Moved.{same-place}
 use Rattle.groups.specs.Group.{run}
 use Rattle.groups.specs.Width.{Reads}
@@ -64,13 +67,27 @@ module _ (most top : ℕ) (wide : Wide most top) (s : List ℕ) (at : ℕ) where
   says-overrun h m = due-kept (overrun-large (unsigned most top) wide-sound s at h m)
 
   module _ {sum weight high last : ℕ} (c : Closing s at sum weight high last) where
-    pub says-large : {largest : ℕ} → (high + 1 < most → largest ≡ 127) × (most ≤ high + 1 → largest ≡ top) → high + 1 ≤ most → largest < last
-        → Reads (unsigned most top) s at (refused (by-at 2 (at + (most - 1))))
-    says-large f m h =
-        by-order (high + 1) most (λ l. absurd (omega (arith, f .0 l, c .low)))
-        (λ l.
-        due-kept
-        (closed-large (unsigned most top) wide-sound s at c (omega arith) (lt-leb last top (omega (arith, f .1 l))) ∙ same-place (omega arith)))
+    -- by what `too_large` answers
+    module _ {r : Bool} (told : r ≡ pick (ltb (high + 1) most) false (either (ltb most (high + 1)) (ltb top last))) where
+      pub large-there : r ≡ true → most ≤ high + 1
+      large-there e = by-order (high + 1) most (λ l. clash (told ∙ rw (lt-ltb (high + 1) most l)) e) (λ l. l)
+
+      pub says-large : r ≡ true → Reads (unsigned most top) s at (refused (by-at 2 (at + (most - 1))))
+      says-large e =
+          by-order most (high + 1) (λ m. says-overrun (c .here) (omega (arith, c .many)))
+          (λ m.
+          let l = large-there e in
+          let t : ltb top last ≡ true = rw (le-ltb (high + 1) most l, le-ltb most (high + 1) m) at (sym told ∙ e) in
+          due-kept
+          (closed-large (unsigned most top) wide-sound s at c (omega arith) (lt-leb last top (ltb-true top last t)) ∙ same-place (omega arith)))
+
+      pub not-large : r ≡ false → (high < most) × (high + 1 ≡ most → last ≤ top)
+      not-large e =
+          by-order (high + 1) most (λ l. (omega arith, λ q. absurd (omega arith)))
+          (λ l. by-order most (high + 1) (λ m. clash e (told ∙ rw (le-ltb (high + 1) most l, lt-ltb most (high + 1) m)))
+          (λ m.
+          let t : ltb top last ≡ false = rw (le-ltb (high + 1) most l, le-ltb most (high + 1) m) at (sym told ∙ e) in
+          (omega arith, λ q. ltb-false top last t)))
 
     pub says-many : high < most → 0 < high → last < 1 → Reads (unsigned most top) s at (refused (by-at 3 (at + high)))
     says-many m h z =

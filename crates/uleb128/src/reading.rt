@@ -9,7 +9,10 @@ use words::Count;
 use words::Place;
 use words::Refusal;
 ghost use mathlib.Core.Path.{_≡_};
-ghost use Prim.Native.Nat.{_+_, _-_, _*_, _^_, _<_, _≤_};
+ghost use mathlib.Core.Bool.{false};
+ghost use Prim.Native.Nat.{_+_, _-_, _*_, _^_, _<_};
+ghost use lib.Dec.{ltb};
+ghost use Rattle.words.specs.Answer.{pick, either};
 ghost use Rattle.groups.specs.Inner.{OneByte};
 ghost use Rattle.uleb128.specs.Unsigned.{unsigned};
 ghost use Rattle.uleb128.specs.Inner.{Wide, NotOneByte};
@@ -46,14 +49,17 @@ fn overflow(at: usize, most: usize) -> ReadU64
     ReadU64::Refused(Refusal::Overflow, Place(place))
 }
 
-// The largest last byte of a number of n bytes: top at the greatest length, and any before it.
-fn largest_last(n: usize, most: usize, top: u8) -> u8
-    ensures { λ r. ⌜ (n < most → r ≡ 127) × (most ≤ n → r ≡ top) ⌝ }
+// Whether n bytes that end in last are too large for the width.
+fn too_large(n: usize, last: u8, most: usize, top: u8) -> bool
+    ensures { λ r. ⌜ r ≡ pick (ltb n most) false (either (ltb most n) (ltb top last)) ⌝ }
 {
     if n < most {
-        return 127;
+        return false;
     }
-    top
+    if most < n {
+        return true;
+    }
+    top < last
 }
 
 // A number of at most most bytes, whose last byte at that length is at most top. One byte alone was read before.
@@ -80,11 +86,8 @@ fn read_width(bytes: &[u8], start: Place, most: usize, top: u8) -> ReadU64
         } => {
             let high = count.0;
             let n = high + 1;
-            if most < n {
-                return overflow(at, most);
-            }
-            let largest = largest_last(n, most, top);
-            if largest < last {
+            let large = too_large(n, last, most, top);
+            if large {
                 return overflow(at, most);
             }
             if last < 1 {

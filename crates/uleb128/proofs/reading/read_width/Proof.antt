@@ -6,7 +6,7 @@ use native.Mathlib.Omega.{arith}
 use borrow.Author.Needs.{needs}
 use denote.Ref.{now}
 use Rattle.groups.proofs.FromWalk.{walk-tells, Closing, open-inside, overrun-inside, closed-inside, closed-several}
-use Rattle.uleb128.proofs.Widths.{says-past, says-end, says-overrun, says-large, says-many, says-number, number-fits}
+use Rattle.uleb128.proofs.Widths.{says-past, says-end, says-overrun, large-there, says-large, not-large, says-many, says-number, number-fits}
 use Rattle.uleb128.proofs.reading.read_width.Statement.{statement}
 use Rattle.uleb128.proofs.reading.read_width.Tie as tie
 
@@ -20,14 +20,12 @@ closing : (c : tie.After-sum)
 closing c = walk-tells _ _ (c .before .before .walk .ensures) (c .sum .given .1)
 
 -- it isn't too large
-abbrev sum : tie.Else3 → tie.After-sum
-sum c = c .before .before .before .before
+abbrev sum : tie.Else2 → tie.After-sum
+sum c = c .before .before .before
 
-within : (c : tie.Else3) → sum c .sum .given .0 .1 .1 .0 .0 < start (sum c) .args .most
-within c = omega (arith, c .before .before .if2 .left)
-
-allowed : (c : tie.Else3) → sum c .sum .given .0 .1 .1 .0 .0 + 1 ≡ start (sum c) .args .most → sum c .sum .given .0 .1 .1 .1 .0 ≤ start (sum c) .args .top
-allowed c e = omega (arith, c .if3 .left, c .before .largest-last .ensures .1 (omega arith))
+within : (c : tie.Else2) → let q = sum c .sum .given .0 in let a = start (sum c) .args in
+    (q .1 .1 .0 .0 < a .most) × (q .1 .1 .0 .0 + 1 ≡ a .most → q .1 .1 .1 .0 ≤ a .top)
+within c = not-large _ _ (start (sum c) .pre .0) _ _ (closing (sum c)) (c .before .too-large .ensures) (c .if2 .left)
 
 returns : tie.Need-returns
 returns c =
@@ -49,59 +47,50 @@ add-n c = omega (arith, closing (c .before) .few)
 
 overflow-requires-3 : tie.Need-overflow-requires-3
 overflow-requires-3 c κs =
-    omega (arith, closed-inside (closing (c .before .before)), start (c .before .before) .pre .0 .some)
+    let q = closing (c .before .before .before) in
+    let wide = start (c .before .before .before) .pre .0 in
+    omega (arith, closed-inside q, wide .some, large-there _ _ wide _ _ q (c .before .too-large .ensures) (c .if2 .taken))
 
 returns-2 : tie.Need-returns-2
 returns-2 c =
-    let q = closing (c .before .before .before) in
-    rw (c .overflow3 .ensures) (says-overrun _ _ (search needs) _ _ (q .here) (omega (arith, q .many, c .before .if2 .taken)))
-
-overflow-requires-4 : tie.Need-overflow-requires-4
-overflow-requires-4 c κs =
     let q = closing (c .before .before .before .before) in
-    omega (arith, closed-inside q, start (c .before .before .before .before) .pre .0 .some)
-
-returns-3 : tie.Need-returns-3
-returns-3 c =
-    let q = closing (c .before .before .before .before .before) in
-    rw (c .overflow4 .ensures)
-    (says-large _ _ (search needs) _ _ q (c .before .before .largest-last .ensures) (c .before .before .before .if2 .left) (c .before .if3 .taken))
+    rw (c .overflow3 .ensures) (says-large _ _ (search needs) _ _ q (c .before .before .too-large .ensures) (c .before .if2 .taken))
 
 add-ends : tie.Need-add-ends
 add-ends c = omega (arith, closed-inside (closing (sum (c .before))))
 
-returns-4 : tie.Need-returns-4
-returns-4 c =
+returns-3 : tie.Need-returns-3
+returns-3 c =
     let q = closing (sum (c .before)) in
-    says-many _ _ (search needs) _ _ q (within (c .before)) (closed-several q (start (sum (c .before)) .pre .1)) (c .if4 .taken)
+    says-many _ _ (search needs) _ _ q (within (c .before) .0) (closed-several q (start (sum (c .before)) .pre .1)) (c .if3 .taken)
 
 number-requires : tie.Need-number-requires
 number-requires c κs =
     let q = closing (sum (c .before)) in
-    (number-fits _ _ (start (sum (c .before)) .pre .0) _ _ q (within (c .before)) (allowed (c .before)), q .few)
+    (number-fits _ _ (start (sum (c .before)) .pre .0) _ _ q (within (c .before) .0) (within (c .before) .1), q .few)
+
+returns-4 : tie.Need-returns-4
+returns-4 c = says-past _ _ (search needs) _ _ (walk-tells _ _ (c .before .before .walk .ensures) (c .enum-told .given .1))
 
 returns-5 : tie.Need-returns-5
-returns-5 c = says-past _ _ (search needs) _ _ (walk-tells _ _ (c .before .before .walk .ensures) (c .enum-told .given .1))
-
-returns-6 : tie.Need-returns-6
-returns-6 c =
+returns-5 c =
     let q = walk-tells _ _ (c .before .before .before .before .before .walk .ensures) (c .before .before .before .count .given .1) in
     rw (c .overflow .ensures) (says-overrun _ _ (search needs) _ _ (q .here) (omega (arith, q .many)))
 
-returns-7 : tie.Need-returns-7
-returns-7 c =
+returns-6 : tie.Need-returns-6
+returns-6 c =
     let q = walk-tells _ _ (c .before .before .before .walk .ensures) (c .before .enum-told2 .given .1) in
     rw (c .overflow2 .ensures) (says-overrun _ _ (search needs) _ _ (q .here) (omega (arith, q .many)))
 
-returns-8 : tie.Need-returns-8
-returns-8 c =
+returns-7 : tie.Need-returns-7
+returns-7 c =
     let tested = c .before .before in
     let q = closing (sum tested) in
-    rw (c .number .ensures) (says-number _ _ (search needs) _ _ q (within tested) (allowed tested) (λ h. omega arith))
+    rw (c .number .ensures) (says-number _ _ (search needs) _ _ q (within tested .0) (within tested .1) (λ h. omega arith))
 
 pub read-width-spec : {M : Type 1} → statement M
 read-width-spec =
     tie.close
     (tie.spec (λ c κs. search needs) (λ c. search needs) (λ c. search needs) returns overflow-requires (λ c. search needs)
-    overflow-requires-2 (λ c. search needs) add-n overflow-requires-3 returns-2 (λ c κs. search needs) overflow-requires-4 returns-3
-    add-ends returns-4 number-requires returns-5 returns-6 returns-7 returns-8)
+    overflow-requires-2 (λ c. search needs) add-n (λ c κs. search needs) overflow-requires-3 returns-2 add-ends returns-3 number-requires
+    returns-4 returns-5 returns-6 returns-7)

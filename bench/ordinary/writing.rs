@@ -1,14 +1,9 @@
-//! What somebody would write without proof: the same answers, for every input. Each is called as ours is, and not inlined.
+//! Ordinary lengths and writers. Each is called as ours is, and not inlined.
+use super::{LIST_LIMIT, NO_ROOM, TOO_LONG};
 use std::slice::IterMut;
 
-/// The most numbers of a list.
-pub const LIST_LIMIT: usize = 16384;
-
-/// The refusals, by their numbers.
-pub const NO_ROOM: u8 = 5;
-pub const TOO_LONG: u8 = 7;
-
-type Written = Result<usize, u8>;
+/// The count of bytes, or a refusal.
+pub type Written = Result<usize, u8>;
 
 // ---- lengths
 
@@ -141,4 +136,33 @@ pub fn list_by_iterator(numbers: &[u64], buffer: &mut [u8], at: usize) -> Writte
         put_by_iterator(v, &mut out);
     }
     Ok(total)
+}
+
+// ---- forms, for what is checked and not timed
+
+/// The number's bytes.
+pub fn form(v: u64) -> Vec<u8> {
+    let mut form = vec![0; by_shifts(v)];
+    put_by_index(v, &mut form, 0);
+    form
+}
+
+/// The signed number's bytes: the last is the one whose bit of weight 64 tells all that is left.
+pub fn signed_form(v: i64) -> Vec<u8> {
+    let (mut rest, mut form) = (v, vec![]);
+    loop {
+        let low = rest as u8 & 127;
+        rest >>= 7;
+        if rest == if low < 64 { 0 } else { -1 } {
+            form.push(low);
+            return form;
+        }
+        form.push(low | 128);
+    }
+}
+
+pub fn write_signed(v: i64, buffer: &mut [u8], at: usize) -> Written {
+    let form = signed_form(v);
+    room(buffer, at, form.len())?.copy_from_slice(&form);
+    Ok(form.len())
 }
