@@ -13,7 +13,7 @@
 --   set-found          else, it goes just past the first byte below 128 at or after the byte before the place,
 --   set-none           and where there is no such byte it is refused by 8
 use Prim.Native.Nat.{ℕ, _+_, _-_, _≤_, _<_}
-use mathlib.Core.Path.{_≡_, ap, sym, _∙_}
+use mathlib.Core.Path.{_≡_, ap, _∙_}
 use mathlib.Core.List.{List}
 use mathlib.Core.Bool.{true, false}
 use native.Mathlib.Omega.{arith}

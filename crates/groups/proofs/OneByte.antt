@@ -6,7 +6,7 @@
 --   digits-one           a byte below 128 has its own value
 --   reading-one          it is read, whatever follows, at any width of two bytes or more: its value and the count 1,
 --   read-one             and so it is at a place
-use Prim.Native.Nat.{ℕ, suc, _+_, _≤_, _<_}
+use Prim.Native.Nat.{ℕ, suc, _≤_, _<_}
 use mathlib.Core.Path.{_≡_, sym, _∙_, ap}
 use mathlib.Core.List.{List, [], _∷_}
 use mathlib.Core.Bool.{Bool, true, false, not}

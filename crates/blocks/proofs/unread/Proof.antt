@@ -1,6 +1,5 @@
 -- `blocks::unread` keeps what it promises inside the crate: the run goes on from the byte that decided the refusal.
 use native.Mathlib.Omega.{arith}
-use borrow.Author.Needs.{needs}
 use Rattle.blocks.proofs.GroupReading.{decided-inside, run-ends, missing-tail, missing-gap}
 use Rattle.blocks.proofs.unread.Statement.{statement}
 use Rattle.blocks.proofs.unread.Tie as tie

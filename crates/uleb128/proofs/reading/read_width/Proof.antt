@@ -1,6 +1,6 @@
 -- `uleb128::read_width` keeps what it promises inside the crate: at each answer, what the walk tells and the tests on the way
 -- are a law of `Widths`.
-use Prim.Native.Nat.{_+_, _*_, _^_, _<_, _≤_}
+use Prim.Native.Nat.{_+_, _<_, _≤_}
 use mathlib.Core.Path.{_≡_}
 use native.Mathlib.Omega.{arith}
 use borrow.Author.Needs.{needs}

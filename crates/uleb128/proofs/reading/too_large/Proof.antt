@@ -1,6 +1,5 @@
 -- `uleb128::too_large` keeps what it promises inside the crate.
 use borrow.Author.Tests.{lt-ltb, le-ltb}
-use borrow.Author.Needs.{needs}
 use Rattle.uleb128.proofs.reading.too_large.Statement.{statement}
 use Rattle.uleb128.proofs.reading.too_large.Tie as tie
 
