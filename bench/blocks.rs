@@ -58,12 +58,15 @@ fn block(random: &mut Random, size: usize, group: impl Fn(&mut Random) -> Vec<u8
 /// A mix's name, and blocks of it.
 pub type Blocks = (String, Vec<Block>);
 
-pub fn of_mix(random: &mut Random, kind: &Kind, mix: &Mix, size: usize) -> Blocks {
-    let group = |random: &mut Random| {
+fn of_mix_once(random: &mut Random, kind: &Kind, mix: &Mix, size: usize) -> Block {
+    block(random, size, |random| {
         let n = (mix.bytes)(random, kind.most);
         kind.group(random, n)
-    };
-    (mix.name(kind.most), (0..SAMPLES).map(|_| block(random, size, group)).collect())
+    })
+}
+
+pub fn of_mix(random: &mut Random, kind: &Kind, mix: &Mix, size: usize) -> Blocks {
+    (mix.name(kind.most), (0..SAMPLES).map(|_| of_mix_once(random, kind, mix, size)).collect())
 }
 
 pub fn of_all_mixes(random: &mut Random, kind: &Kind, size: usize) -> Vec<Blocks> {
@@ -83,7 +86,32 @@ pub fn with_gaps(random: &mut Random, kind: &Kind, size: usize) -> Blocks {
     ("one in ten a gap".into(), (0..SAMPLES).map(|_| block(random, size, group)).collect())
 }
 
+/// The one behind the other.
+pub fn joined(front: &[Block], back: &[Block]) -> Vec<Block> {
+    front.iter().zip(back).map(|(a, b)| Block { bytes: [&a.bytes[..], &b.bytes].concat(), groups: a.groups + b.groups }).collect()
+}
+
+/// With a gap behind it, told from a number by the last byte.
+pub fn with_a_gap(mut block: Block) -> Block {
+    block.bytes.extend([128, 0]);
+    block
+}
+
 // ---- to be checked
+
+/// Group after group of one mix, as many as fit so many bytes.
+pub fn some_block(random: &mut Random, kind: &Kind, mix: &Mix, size: usize) -> Vec<u8> {
+    of_mix_once(random, kind, mix, size).bytes
+}
+
+/// The block with one byte replaced.
+pub fn struck(random: &mut Random, block: &[u8], byte: u8) -> Vec<u8> {
+    let mut struck = block.to_vec();
+    if !block.is_empty() {
+        struck[random.below(block.len() as u64) as usize] = byte;
+    }
+    struck
+}
 
 /// Up to 14 bytes, most of them such as decide something. How likely one of 128 or more is differs from string to string, so that long groups
 /// come up as well as short ones.

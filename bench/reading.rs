@@ -1,6 +1,6 @@
 //! Single reads, steps, and what goes over a whole block. A pass goes over a block of 60,000 bytes, or as many as whole groups make.
 use crate::blocks::{self, Block, Blocks, Kind, I64, U32, U64};
-use crate::common::{beside, differ, figure, head, row, row_beside, time, Check, Random, LONGEST, NINE_IN_TEN, ONE_BYTE};
+use crate::common::{beside, differ, figure, head, row, row_beside, time, Check, Random, LONGEST, MIXES, NINE_IN_TEN, ONE_BYTE};
 use crate::ordinary::reading::{self as ordinary, Pass, Read, Reader, Step, Stepper, Strict};
 use crate::ordinary::BLOCK_LIMIT;
 use crate::ours;
@@ -80,6 +80,28 @@ impl Stepping {
     }
 }
 
+type ReadStrict = fn(&[u8], &mut [u64]) -> Strict;
+
+/// Ours, then each ordinary one.
+fn strict_readers() -> Vec<(&'static str, ReadStrict)> {
+    once(("ours", ours::read_strict as ReadStrict)).chain(ordinary::STRICT.iter().map(|other| (other.name, other.read))).collect()
+}
+
+/// Blocks of each mix; blocks whose halves differ; and blocks that are refused by their last byte.
+fn strict_blocks(random: &mut Random) -> Vec<Blocks> {
+    let mut half = |mix| blocks::of_mix(random, &U64, mix, SIZE / 2).1;
+    let [small, long] = [half(&ONE_BYTE), half(&LONGEST)];
+    let halves = [
+        ("one byte, then ten bytes".to_string(), blocks::joined(&small, &long)),
+        ("ten bytes, then one byte".to_string(), blocks::joined(&long, &small)),
+    ];
+    let refused = [ONE_BYTE, NINE_IN_TEN, LONGEST].map(|mix| {
+        let (name, blocks) = blocks::of_mix(random, &U64, &mix, SIZE);
+        (format!("{name}, refused at the end"), blocks.into_iter().map(blocks::with_a_gap).collect())
+    });
+    blocks::of_all_mixes(random, &U64, SIZE).into_iter().chain(halves).chain(refused).collect()
+}
+
 // ---- both sides answer alike
 
 fn shown(bytes: &[u8]) -> String {
@@ -143,7 +165,7 @@ fn check_strict(check: &mut Check, block: &[u8]) {
     for room in [0, groups.saturating_sub(1), groups, groups + 3] {
         let what = || format!("strict reading into {room} of {}", shown(block));
         let marked: Vec<u64> = (0..room as u64).map(|i| !i).collect();
-        let [ours, other] = [("ours", ours::read_strict as fn(&[u8], &mut [u64]) -> Strict), ("strict", ordinary::read_strict)].map(|(name, read)| {
+        let mut answers = strict_readers().into_iter().map(|(name, read)| {
             let mut numbers = marked.clone();
             let answer = read(block, &mut numbers);
             if answer.is_err() && numbers != marked {
@@ -151,7 +173,26 @@ fn check_strict(check: &mut Check, block: &[u8]) {
             }
             (name, (answer, numbers))
         });
-        check.agree(what, ours.1, [other]);
+        let (_, ours) = answers.next().unwrap();
+        check.agree(what, ours, answers);
+    }
+}
+
+/// Strict reading of blocks long enough for every way that it has: whole, damaged, and with each byte that decides something at one place.
+fn check_long_blocks(check: &mut Check, random: &mut Random) {
+    for mix in &MIXES {
+        for _ in 0..400 {
+            let size = random.below(700) as usize;
+            let block = blocks::some_block(random, &U64, mix, size);
+            check_strict(check, &block);
+            check_strict(check, &blocks::damaged(random, &block));
+            for byte in [0, 1, 2, 127, 128, 255] {
+                check_strict(check, &blocks::struck(random, &block, byte));
+            }
+        }
+    }
+    for (_, blocks) in strict_blocks(random) {
+        blocks.iter().for_each(|block| check_strict(check, &block.bytes));
     }
 }
 
@@ -230,6 +271,7 @@ fn check_listings(check: &mut Check) {
 pub fn check(check: &mut Check, random: &mut Random) {
     check_reads(check, random);
     check_blocks(check, random);
+    check_long_blocks(check, random);
     check_all_passes(check, random);
     check_listings(check);
 }
@@ -267,15 +309,40 @@ fn table_of_steps(random: &mut Random) -> io::Result<()> {
     Ok(())
 }
 
+/// The times of strict readers. The slice has room for more numbers than any block has.
+fn time_strict(readers: &[(&str, ReadStrict)], blocks: &[Block]) -> Vec<f64> {
+    let mut numbers = vec![0; BLOCK_LIMIT];
+    time(readers, blocks, |block| block.groups, |(_, read), block| read(&block.bytes, &mut numbers))
+}
+
+/// Beside the quickest ordinary version two of them have a column of their own: the plain one with a test for one small byte, and the one for long
+/// numbers.
+fn table_of_strict(random: &mut Random) -> io::Result<()> {
+    head(&["what", "numbers", "ours", "ordinary", "of small", "of varint", "of the quickest"])?;
+    let readers = strict_readers();
+    let names: Vec<&str> = readers[1..].iter().map(|(name, _)| *name).collect();
+    for (mix, blocks) in strict_blocks(random) {
+        let times = time_strict(&readers, &blocks);
+        let of = |name| figure(times[0] / times[readers.iter().position(|reader| reader.0 == name).unwrap()]);
+        let [all, ratio] = beside(times[0], &names, &times[1..]);
+        row(&["`read_strict`", &mix, &figure(times[0]), &all, &of("small"), &of("varint"), &ratio])?;
+    }
+    Ok(())
+}
+
 /// Our times in blocks of growing size.
 fn table_of_growth(random: &mut Random) -> io::Result<()> {
     head(&["what", "numbers", "4 KB", "8 KB", "16 KB", "32 KB", "64 KB"])?;
-    for (what, pass) in [(STEP_UNSIGNED.what, STEP_UNSIGNED.pass), (READ_U64.what, READ_U64.pass)] {
+    let pass = |pass: Pass| move |blocks: &[Block]| time_passes(&vec![("ours", pass)], blocks)[0];
+    let strict = |blocks: &[Block]| time_strict(&strict_readers()[..1], blocks)[0];
+    let ours: [(&str, &dyn Fn(&[Block]) -> f64); 3] =
+        [(STEP_UNSIGNED.what, &pass(STEP_UNSIGNED.pass)), (READ_U64.what, &pass(READ_U64.pass)), ("`read_strict`", &strict)];
+    for (what, timed) in ours {
         for mix in [ONE_BYTE, NINE_IN_TEN, LONGEST] {
             let mut cells = vec![what.to_string(), mix.name(U64.most)];
             for size in [4096, 8192, 16384, 32768, 65536] {
                 let (_, blocks) = blocks::of_mix(random, &U64, &mix, size);
-                cells.push(figure(time_passes(&vec![("ours", pass)], &blocks)[0]));
+                cells.push(figure(timed(&blocks)));
             }
             row(&cells)?;
         }
@@ -286,5 +353,6 @@ fn table_of_growth(random: &mut Random) -> io::Result<()> {
 pub fn tables(random: &mut Random) -> io::Result<()> {
     table_of_reads(random)?;
     table_of_steps(random)?;
+    table_of_strict(random)?;
     table_of_growth(random)
 }

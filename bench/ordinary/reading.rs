@@ -383,22 +383,106 @@ pub fn set_down(block: &[u8], at: usize) -> Result<usize, u8> {
     (at..=block.len()).find(|&place| is_start(block, place)).ok_or(NO_START)
 }
 
+// ---- strict reading
+
 /// The count of numbers, or a refusal and, where a byte decided it, its place.
 pub type Strict = Result<usize, (u8, Option<usize>)>;
 
-pub fn read_strict(block: &[u8], numbers: &mut [u64]) -> Strict {
+/// A way to read a whole block. Each decodes into a `Vec` and copies that out at the end, so that a refusal changes no number.
+pub struct StrictReader {
+    pub name: &'static str,
+    pub read: fn(&[u8], &mut [u64]) -> Strict,
+}
+
+pub const STRICT: &[StrictReader] = &[
+    StrictReader { name: "plain", read: |block, numbers| strictly(block, numbers, Items::<u64, false>::new(block, 0)) },
+    StrictReader { name: "small", read: |block, numbers| strictly(block, numbers, SmallFirst(Items::new(block, 0))) },
+    StrictReader { name: "reader", read: |block, numbers| strictly(block, numbers, Items::<u64, true>::new(block, 0)) },
+    StrictReader { name: "varint", read: |block, numbers| strictly(block, numbers, Varints { at: 0, rest: block }) },
+];
+
+/// The numbers of a block as an iterator finds its groups. A group takes a byte at least, so that the `Vec` needn't grow.
+#[inline(always)]
+fn strictly(block: &[u8], numbers: &mut [u64], items: impl Iterator<Item = Item<u64>>) -> Strict {
     if block.len() > BLOCK_LIMIT {
         return Err((TOO_LONG, None));
     }
-    let mut found = vec![];
-    for item in Items::<u64, false>::new(block, 0) {
+    let mut found = Vec::with_capacity(block.len());
+    for item in items {
         match item {
             Item::Number(v, _) => found.push(v),
             Item::Gap(refusal, place, _) => return Err((refusal, Some(place))),
             Item::Tail(_) => return Err((END, Some(block.len()))),
         }
     }
-    let front = numbers.get_mut(..found.len()).ok_or((NO_ROOM, None))?;
-    front.copy_from_slice(&found);
+    numbers.get_mut(..found.len()).ok_or((NO_ROOM, None))?.copy_from_slice(&found);
     Ok(found.len())
+}
+
+/// A test for one small byte, then the plain loop.
+struct SmallFirst<'a>(Items<'a, u64, false>);
+
+impl Iterator for SmallFirst<'_> {
+    type Item = Item<u64>;
+
+    #[inline(always)]
+    fn next(&mut self) -> Option<Item<u64>> {
+        let &first = self.0.block.get(self.0.at)?;
+        if first < 128 {
+            self.0.at += 1;
+            return Some(Item::Number(first.into(), 1));
+        }
+        self.0.next()
+    }
+}
+
+/// The number at the front of the bytes and what is behind it, or a refusal and the place in them of the byte that decided it: the decoder of the
+/// crate unsigned-varint, with a test of the tenth byte.
+#[inline(always)]
+fn varint(bytes: &[u8]) -> Result<(u64, &[u8]), (u8, usize)> {
+    let mut v = 0;
+    for (i, &b) in bytes.iter().enumerate() {
+        v |= u64::from(b & 127) << (7 * i);
+        if b < 128 {
+            if i == 9 && b > 1 {
+                return Err((OVERFLOW, i));
+            }
+            if b == 0 && i > 0 {
+                return Err((NOT_SHORTEST, i));
+            }
+            return Ok((v, &bytes[i + 1..]));
+        }
+        if i == 9 {
+            return Err((OVERFLOW, i));
+        }
+    }
+    Err((END, bytes.len()))
+}
+
+/// That decoder, with a test of whether what it refuses is a tail.
+struct Varints<'a> {
+    at: usize,
+    rest: &'a [u8],
+}
+
+impl Iterator for Varints<'_> {
+    type Item = Item<u64>;
+
+    #[inline(always)]
+    fn next(&mut self) -> Option<Item<u64>> {
+        if self.rest.is_empty() {
+            return None;
+        }
+        Some(match varint(self.rest) {
+            Ok((v, behind)) => {
+                let count = self.rest.len() - behind.len();
+                (self.at, self.rest) = (self.at + count, behind);
+                Item::Number(v, count)
+            }
+            Err((refusal, place)) => match self.rest.iter().position(|&b| b < 128) {
+                Some(high) => Item::Gap(refusal, self.at + place, high + 1),
+                None => Item::Tail(self.rest.len()),
+            },
+        })
+    }
 }
