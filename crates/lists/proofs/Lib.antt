@@ -3,6 +3,6 @@ pub mod LayLoop
 pub mod NumbersInFront
 pub mod NumbersAtStart
 pub mod ScanLoop
+pub mod NumbersLeft
 pub mod StrictAnswers
-pub mod FillLoop
 pub mod OneList

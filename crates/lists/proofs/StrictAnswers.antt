@@ -1,61 +1,58 @@
 -- The answers of strict reading, from how many numbers the block has, or its first fault.
 --
---   strict-answer    in a block within the limit, the answer and the slice that come from its numbers are strict reading's
---   counted-room     where there is room for the numbers, their count is answered
---   slice-fits       a block within the limit fits a slice with room for as many numbers as it has
 --   block-too-long   a block above the limit is refused by 7, and the slice kept
 --   block-faulty     one with a fault, by the first, with its place
 --   slice-full       one of more numbers than the slice has room for, by 5
+--   slice-fits       where there is room for as many numbers as the block has, they stand in it one behind another, so many;
+--   slice-filled     stored from the front of the slice on, they are what strict reading answers and leaves
 use Prim.Native.Nat.{ℕ, _≤_, _<_}
-use mathlib.Core.Path.{_≡_, refl}
+use mathlib.Core.Path.{_≡_, refl, ap, sym, _∙_}
 use mathlib.Core.List.{List}
+use native.Mathlib.Nat.{zero-add}
 use native.Mathlib.Omega.{arith}
 use borrow.Author.Tests.{lt-ltb, le-ltb, le-leb, lt-leb}
 use lib.ListN.{length}
+use lib.Seq.{sets, sets-eq}
 use Rattle.words.specs.Answer.{Answer, gives, refused, by, becauseAt, Why}
 use Rattle.words.specs.declared.Place.{Place}
 use Rattle.words.specs.declared.Refusal.{Refusal}
 use Rattle.words.specs.declared.Refusal.the-variants.{TooLong, NoRoom}
+use Rattle.words.proofs.OneMeaning.{apart}
+use Rattle.groups.specs.Group.{Bytes}
 use Rattle.blocks.specs.Block.{blockLimit}
+use Rattle.quick_laws.specs.Halves.{AllFit, AllStored}
 use Rattle.lists.specs.Strict.{numbers, counted, filling, strict, filled}
-use Rattle.lists.specs.Inner.{many, Room, HoldsAll}
+use Rattle.lists.specs.Inner.{many}
 use Rattle.lists.specs.Promise.{meansReadList, ReadsStrict}
+use Rattle.lists.specs.declared.Numbers.{Numbers}
 use Rattle.lists.specs.declared.ReadList.{ReadList}
-use Rattle.lists.specs.declared.ReadList.the-variants.{Faulty, Refused}
+use Rattle.lists.specs.declared.ReadList.the-variants.{Filled, Faulty, Refused}
+use Rattle.lists.proofs.NumbersLeft.{numbers-left}
+
+-- as many numbers as are counted, or the fault that is found
+numbers-many : (a : Answer (List ℕ)) {n : ℕ} → gives n ≡ many a → (ns : List ℕ) × (a ≡ gives ns) × (length ns ≡ n)
+numbers-many (gives ns) {n} e = let q : length ns ≡ n = cc in (ns, refl, q)
+numbers-many (refused k) e = apart e
+
+fault-many : (a : Answer (List ℕ)) {k : Why} → refused k ≡ many a → a ≡ refused k
+fault-many (gives ns) e = apart (sym e)
+fault-many (refused j) {k = k} e = let q : j ≡ k = cc in ap refused q
+
+-- numbers for which there is room
+counted-room : (ns : List ℕ) (room : ℕ) → length ns ≤ room → counted (gives ns) room ≡ gives (length ns)
+counted-room ns room h = rw (le-leb (length ns) room h)
+
+filling-room : (ns old : List ℕ) → length ns ≤ length old → sets old 0 ns ≡ filling (gives ns) old
+filling-room ns old h = sets-eq ns old 0 (omega arith) ∙ rw (zero-add (length ns), le-leb (length ns) (length old) h)
+
+pub slice-fits : (s : List ℕ) {n room : ℕ} → Bytes s → gives n ≡ many (numbers 0 s) → n ≤ room → AllFit s n room
+slice-fits s bytes e h = let g = numbers-many (numbers 0 s) e in record { vs = g .0; left = numbers-left s bytes (g .1); many = g .2; enough = h }
 
 -- strict reading, from what the numbers of the block come to
-module _ (s old : List ℕ) (short : length s ≤ blockLimit) where
-  pub strict-answer : {r : ReadList} {out : List ℕ} → meansReadList r ≡ counted (numbers 0 s) (length old) → out ≡ filling (numbers 0 s) old
-      → ReadsStrict s old r out
-  unfolding strict filled
-  strict-answer e f = let t = le-ltb blockLimit (length s) short in record { answer = rw t e; leaves = rw t f }
-
-pub counted-room : (a : Answer (List ℕ)) (room : ℕ) → Room a 0 room → many a ≡ counted a room
-counted-room (gives ns) room h = rw (le-leb (length ns) room (omega arith))
-counted-room (refused k) room h = refl
-
-room-of : (a : Answer (List ℕ)) {n room : ℕ} → gives n ≡ many a → n ≤ room → Room a 0 room
-room-of (gives ns) {n} e h = let f : n ≡ length ns = cc in omega arith
-room-of (refused k) e h = let z : _≡_ {A = ℕ} 0 1 = cc in absurd (omega arith)
-
-counted-full : (a : Answer (List ℕ)) {n : ℕ} (room : ℕ) → gives n ≡ many a → room < n → refused (by 5) ≡ counted a room
-counted-full (gives ns) {n} room e h = let f : n ≡ length ns = cc in rw (lt-leb (length ns) room (omega arith))
-counted-full (refused k) room e h = let z : _≡_ {A = ℕ} 0 1 = cc in absurd (omega arith)
-
-filling-full : (a : Answer (List ℕ)) {n : ℕ} (old : List ℕ) → gives n ≡ many a → length old < n → old ≡ filling a old
-filling-full (gives ns) {n} old e h = let f : n ≡ length ns = cc in rw (lt-leb (length ns) (length old) (omega arith))
-filling-full (refused k) old e h = refl
-
-counted-fault : (a : Answer (List ℕ)) {k : Why} (room : ℕ) → refused k ≡ many a → refused k ≡ counted a room
-counted-fault (gives ns) room e = let z : _≡_ {A = ℕ} 0 1 = cc in absurd (omega arith)
-counted-fault (refused k) room e = e
-
-filling-fault : (a : Answer (List ℕ)) {k : Why} (old : List ℕ) → refused k ≡ many a → old ≡ filling a old
-filling-fault (gives ns) old e = let z : _≡_ {A = ℕ} 0 1 = cc in absurd (omega arith)
-filling-fault (refused k) old e = refl
-
-pub slice-fits : (s : List ℕ) {n room : ℕ} → length s ≤ blockLimit → gives n ≡ many (numbers 0 s) → n ≤ room → HoldsAll s room
-slice-fits s short e h = record { short = short; enough = room-of (numbers 0 s) e h }
+strict-answer : (s old : List ℕ) → length s ≤ blockLimit → {r : ReadList} {out : List ℕ} → meansReadList r ≡ counted (numbers 0 s) (length old)
+    → out ≡ filling (numbers 0 s) old → ReadsStrict s old r out
+unfolding strict filled
+strict-answer s old short e f = let t = le-ltb blockLimit (length s) short in record { answer = rw t e; leaves = rw t f }
 
 module _ (s old : List ℕ) where
   pub block-too-long : blockLimit < length s → ReadsStrict s old (Refused TooLong) old
@@ -63,7 +60,19 @@ module _ (s old : List ℕ) where
   block-too-long h = let t = lt-ltb blockLimit (length s) h in record { answer = rw t; leaves = rw t }
 
   pub block-faulty : {k : Refusal} {p : Place} → length s ≤ blockLimit → refused (becauseAt k (p .0)) ≡ many (numbers 0 s) → ReadsStrict s old (Faulty k p) old
-  block-faulty h e = strict-answer s old h (counted-fault (numbers 0 s) (length old) e) (filling-fault (numbers 0 s) old e)
+  block-faulty short e = let f = fault-many (numbers 0 s) e in strict-answer s old short (rw f) (rw f)
 
-  pub slice-full : {n : ℕ} → length s ≤ blockLimit → gives n ≡ many (numbers 0 s) → length old < n → ReadsStrict s old (Refused NoRoom) old
-  slice-full short e h = strict-answer s old short (counted-full (numbers 0 s) (length old) e h) (filling-full (numbers 0 s) old e h)
+  module _ {n : ℕ} (short : length s ≤ blockLimit) (e : gives n ≡ many (numbers 0 s)) where
+    pub slice-full : length old < n → ReadsStrict s old (Refused NoRoom) old
+    slice-full h =
+        let g = numbers-many (numbers 0 s) e in
+        let t = lt-leb (length (g .0)) (length old) (omega (arith, g .2)) in
+        strict-answer s old short (rw (g .1, t)) (rw (g .1, t))
+
+    pub slice-filled : {out : List ℕ} {m : Numbers} → Bytes s → n ≤ length old → m .0 ≡ n → AllStored s old out → ReadsStrict s old (Filled m) out
+    slice-filled bytes h f stored =
+        let g = numbers-many (numbers 0 s) e in
+        let r : length (g .0) ≤ length old = omega (arith, g .2) in
+        strict-answer s old short
+        (ap gives (f ∙ sym (g .2)) ∙ sym (ap (λ (a : Answer (List ℕ)). counted a (length old)) (g .1) ∙ counted-room (g .0) (length old) r))
+        (stored (g .0) (numbers-left s bytes (g .1)) ∙ filling-room (g .0) old r ∙ ap (λ (a : Answer (List ℕ)). filling a old) (sym (g .1)))

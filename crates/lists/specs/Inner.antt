@@ -2,8 +2,6 @@
 --
 --   numberAhead v a    the answer a with the number v in front
 --   many a             how many numbers
---   Room a i room      a is numbers, and behind i others there is room for them
---   HoldsAll s room    the block s has no fault, and there is room for its numbers
 --   StartsBefore s p   p is a start of the block s, before its end
 --   Behind s p v q     the number v stands at the start p, and q is the start behind it
 --   Passes s p r       r says what stands at the start p: a fault, or a number and the place behind it
@@ -31,14 +29,6 @@ numberAhead v (refused k) = refused k
 abbrev pub many : Answer (List ℕ) → Answer ℕ
 many (gives ns) = gives (length ns)
 many (refused k) = refused k
-
-abbrev pub Room : Answer (List ℕ) → ℕ → ℕ → Type 0
-Room (gives ns) i room = i + length ns ≤ room
-Room (refused k) i room = ⊥
-
-pub record HoldsAll (s : List ℕ) (room : ℕ) : Type 0 where
-  pub short : length s ≤ blockLimit
-  pub enough : Room (numbers 0 s) 0 room
 
 pub record StartsBefore (s : List ℕ) (p : ℕ) : Type 0 where
   pub short : length s ≤ blockLimit

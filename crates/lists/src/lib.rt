@@ -1,4 +1,5 @@
 // Lists of unsigned numbers: strict reading of a whole block, and writing a list's forms one after another.
+mod quick;
 mod reading;
 mod writing;
 

@@ -1,6 +1,10 @@
-// Strict reading of a whole block: one pass counts its numbers or finds its first fault, and a second one stores them.
+// Strict reading of a whole block: one pass counts its numbers or finds its first fault, and a second one stores them. The quick way
+// (module `quick`) does both for a block without a fault; the plain pass, step after step, decides every refusal.
 use crate::Numbers;
 use crate::ReadList;
+use crate::quick::clean;
+use crate::quick::fill;
+use crate::quick::low_bytes;
 use blocks::BLOCK_LIMIT;
 use blocks::Cursor;
 use blocks::Rule;
@@ -11,7 +15,7 @@ use words::Refusal;
 ghost use Prim.Native.Nat.{_≤_};
 ghost use lib.ListN.{length};
 ghost use Rattle.blocks.specs.Block.{blockLimit};
-ghost use Rattle.lists.specs.Inner.{StartsBefore, Passes, Scans, HoldsAll};
+ghost use Rattle.lists.specs.Inner.{StartsBefore, Passes, Scans};
 ghost use Rattle.lists.specs.Promise.{ReadsStrict};
 
 // A group's number with the place behind it, or the fault there with the place of the byte that decided it.
@@ -49,7 +53,7 @@ fn pass(block: &[u8], at: usize) -> Passed
     }
 }
 
-// The first pass: counts the numbers, and stores none.
+// The plain pass: counts the numbers, or finds the first fault, and stores none.
 fn scan(block: &[u8]) -> Scanned
     requires { ⌜ length (now block) ≤ blockLimit ⌝ }
     ensures { λ r. ⌜ Scans (now (block .entry)) r ⌝ }
@@ -70,26 +74,17 @@ fn scan(block: &[u8]) -> Scanned
     Scanned::Count(count)
 }
 
-// The second pass: stores the numbers of a block without a fault, for which there is room. So it meets no fault.
-fn fill(block: &[u8], numbers: &mut [u64]) -> ReadList
-    requires { ⌜ HoldsAll (now block) (length (now numbers)) ⌝ }
-    ensures { λ r. ⌜ ReadsStrict (now (block .entry)) (now (numbers .entry)) r (now (numbers .exit)) ⌝ }
+// How many numbers a block has, or its first fault: by the sound scan, and by the plain pass where that doesn't tell.
+fn measure(block: &[u8]) -> Scanned
+    requires { ⌜ length (now block) ≤ blockLimit ⌝ }
+    ensures { λ r. ⌜ Scans (now (block .entry)) r ⌝ }
 {
-    let mut at: usize = 0;
-    let mut count: usize = 0;
-    while at < block.len() {
-        match pass(block, at) {
-            Passed::Number(v, behind) => {
-                numbers[count] = v;
-                at = behind;
-                count += 1;
-            }
-            Passed::Fault(refusal, place) => {
-                return ReadList::Faulty(refusal, place);
-            }
-        }
+    let sound = clean(block);
+    if sound {
+        let count = low_bytes(block, block.len());
+        return Scanned::Count(count);
     }
-    ReadList::Filled(Numbers(count))
+    scan(block)
 }
 
 // Fills the front of the slice with the block's numbers, if every group is one and there is no tail: else 7, the first fault by
@@ -100,12 +95,13 @@ pub fn read_strict(block: &[u8], numbers: &mut [u64]) -> ReadList
     if BLOCK_LIMIT < block.len() {
         return ReadList::Refused(Refusal::TooLong);
     }
-    match scan(block) {
+    match measure(block) {
         Scanned::Count(count) => {
             if numbers.len() < count {
                 return ReadList::Refused(Refusal::NoRoom);
             }
-            fill(block, numbers)
+            fill(block, numbers, count);
+            ReadList::Filled(Numbers(count))
         }
         Scanned::Fault(refusal, place) => ReadList::Faulty(refusal, place),
     }
