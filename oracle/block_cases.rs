@@ -83,7 +83,7 @@ fn at_places(input: &mut Vec<u8>, block: &[u8], places: impl IntoIterator<Item =
     }
 }
 
-fn into_slices(input: &mut Vec<u8>, block: &[u8], sizes: impl IntoIterator<Item = u64>) {
+pub fn into_slices(input: &mut Vec<u8>, block: &[u8], sizes: impl IntoIterator<Item = u64>) {
     for size in sizes {
         put(input, STRICT, size, 0, block);
     }
@@ -590,7 +590,7 @@ fn long_listings(input: &mut Vec<u8>) {
 // ---- random cases
 
 /// How many groups a block has.
-fn groups(block: &[u8]) -> usize {
+pub fn groups(block: &[u8]) -> usize {
     block.iter().filter(|byte| **byte < 128).count()
 }
 

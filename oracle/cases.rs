@@ -1,18 +1,20 @@
 //! The cases: first those written down by hand, then each limit from both sides, then random ones;
-//! after those for numbers, here, those for blocks, lists and turns from block_cases.rs.
+//! after those for numbers, here, those for blocks, lists and turns from block_cases.rs, and more
+//! for strict reading from strict_cases.rs.
 //!
 //!   committed   the cases that the repository holds
 //!   large       these, the long ones that are written down by hand, all pairs of bytes, more turns,
-//!               long frames and blocks, and 1,470,000 random cases more
+//!               long frames and blocks, 1,470,000 random cases more, and more for strict reading
 //!
 //! Nothing here says what an answer should be. The same bytes come out on every machine.
 
 use crate::block_cases;
 use crate::blocks::MOST_OF_BLOCK;
 use crate::frames::{put, MOST_BYTES};
-use crate::known::{put_known, put_long};
+use crate::known::{put_known, put_long, put_strict};
 use crate::numbers::{form, length, power, Rule, GROWTH};
 use crate::random::Random;
+use crate::strict_cases;
 use Rule::*;
 
 const READERS: [(u8, Rule); 4] = [(1, U64), (2, U64), (3, U32), (4, I64)];
@@ -53,6 +55,7 @@ pub fn large() -> Vec<u8> {
     refusals_at(&mut input, &[999, 1_000, 9_999, 10_000]);
     random_refusals(&mut input, 13, 150_000);
     block_cases::more(&mut input);
+    strict_cases::more(&mut input);
     put(&mut input, 1, 0, 0, &vec![1; MOST_BYTES as usize + 1]);
     put(&mut input, 1, 0, 0, &[1]);
     input
@@ -75,6 +78,8 @@ fn whole(input: &mut Vec<u8>) {
     refusals(input);
     random_refusals(input, 12, 400);
     block_cases::whole(input);
+    put_strict(input);
+    strict_cases::whole(input);
 }
 
 // ---- reading

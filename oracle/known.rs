@@ -4,8 +4,10 @@
 //!   READ, WRITE, LENGTH   the cases for numbers, each with its answer line
 //!   BLOCK, LIST, TURN     those for blocks, lists and turns
 //!   READ_PLACE, BLOCK_PLACE, LONG_PLACE   those for the byte that decided a refusal or a gap
+//!   STRICT                those for strict reading that may be done in parts
 //!   put_limits            those with a block or list as long as it may be, or longer
 //!   put_known             all of these as frames
+//!   put_strict            those of STRICT as frames
 //!   put_long              those of the large run alone
 //!   LISTING               the named inputs for the listing, each with its text
 //!   TEXT                  other blocks, each with the text of its listing
@@ -29,6 +31,10 @@ type Length = (&'static [u8], i128, &'static str);
 type List = (u64, &'static [u64], &'static str, &'static str);
 /// (thread codes, turn, answer)
 type Turn = (&'static [u64], i128, &'static str);
+
+/// (size of the slice, so many times these bytes in hex, so many times this text of the answer)
+type Strict = (u64, &'static [Times], &'static [Times]);
+type Times = (usize, &'static str);
 
 /// The 17 bytes of document 01's listing, and the same with the two bytes at 3 mended.
 const DOCUMENT: &str = "00 80 01 80 00 ff ff ff ff ff ff ff ff ff 02 05 83";
@@ -435,6 +441,42 @@ const LONG_PLACE: &[Long] = &[
     (&[3], 299990, 299990, "ff ff ff ff ff ff ff ff ff ff", "refused 2 299994"),
 ];
 
+/// A number of a slice that is as it was before.
+const LEFT: &str = " 7777777777777777777";
+
+#[rustfmt::skip]
+const STRICT: &[Strict] = &[
+    // Eight bytes and one more, with room for all and for eight.
+    (9, &[(1, "00 01 02 03 04 05 06 07 7f")], &[(1, "count 9 0 1 2 3 4 5 6 7 127")]),
+    (8, &[(1, "00 01 02 03 04 05 06 07 7f")], &[(1, "refused 5"), (8, LEFT)]),
+    // A number of ten bytes across place 8: 1 + 2^63.
+    (10, &[(1, "01 02 03 04 05 06 07 81"), (8, "80"), (1, "01 05")], &[(1, "count 9 1 2 3 4 5 6 7 9223372036854775809 5"), (1, LEFT)]),
+    // The weight of each byte: 1 + 2 * 2^7 + 3 * 2^14 and so on up to 9 * 2^56; and 2^63 besides.
+    (2, &[(1, "05 81 82 83 84 85 86 87 88 09")], &[(1, "count 2 5 653052939803345153")]),
+    (1, &[(1, "81 82 83 84 85 86 87 88 89 01")], &[(1, "count 1 9876424976658120961")]),
+    // A bit alone: 2^6, 2^13, 2^20, 2^62, 2^63.
+    (5, &[(1, "40 80 40 80 80 40"), (8, "80"), (1, "40"), (9, "80"), (1, "01")], &[(1, "count 5 64 8192 1048576 4611686018427387904 9223372036854775808")]),
+    // Nine bytes with each last byte: 2^56, 2 * 2^56, 2^63 - 1; and ten.
+    (1, &[(8, "80"), (1, "00")], &[(1, "refused 3 8"), (1, LEFT)]),
+    (3, &[(8, "80"), (1, "01"), (8, "80"), (1, "02"), (8, "ff"), (1, "7f")], &[(1, "count 3 72057594037927936 144115188075855872 9223372036854775807")]),
+    (1, &[(9, "80"), (1, "7f")], &[(1, "refused 2 9"), (1, LEFT)]),
+    // Halves that differ, in both orders.
+    (12, &[(10, "05"), (9, "ff"), (1, "01")], &[(1, "count 11"), (10, " 5"), (1, " 18446744073709551615"), (1, LEFT)]),
+    (11, &[(9, "ff"), (1, "01"), (10, "05")], &[(1, "count 11 18446744073709551615"), (10, " 5")]),
+    (10, &[(9, "ff"), (1, "01"), (10, "05")], &[(1, "refused 5"), (10, LEFT)]),
+    // A fault in each half: "the first fault by place", before 5. Then one at the end alone.
+    (0, &[(20, "05"), (1, "80 00"), (20, "05"), (9, "ff"), (1, "02")], &[(1, "refused 3 21")]),
+    (2, &[(20, "05"), (9, "80"), (1, "02"), (20, "05"), (1, "80 00 80")], &[(1, "refused 2 29"), (2, LEFT)]),
+    (41, &[(40, "05"), (1, "ff 80 00")], &[(1, "refused 3 42"), (41, LEFT)]),
+    (17, &[(17, "05"), (12, "80")], &[(1, "refused 1 29"), (17, LEFT)]),
+    // A group that is the whole block, and one that is half of it.
+    (1, &[(127, "80"), (1, "01")], &[(1, "refused 2 9"), (1, LEFT)]),
+    (1, &[(128, "05"), (127, "ff"), (1, "00")], &[(1, "refused 2 137"), (1, LEFT)]),
+    // More numbers than a byte counts, and than a slice of 256 holds.
+    (277, &[(257, "80 01")], &[(1, "count 257"), (257, " 128"), (20, LEFT)]),
+    (256, &[(257, "05")], &[(1, "refused 5"), (256, LEFT)]),
+];
+
 #[rustfmt::skip]
 const LIST: &[List] = &[
     (0, &[0, 127, 128, 12857, 18446744073709551615], "a5 5a 33 cc 96 69 0f f0 3c c3 a5 5a 33 cc 96 69", "count 16 007f8001b964ffffffffffffffffff01"),
@@ -604,6 +646,24 @@ pub fn put_known(input: &mut Vec<u8>) -> Vec<String> {
     lines
 }
 
+/// The known cases for strict reading in parts. They stand before the cases of their kind, so that
+/// the cases there were before keep their order. Gives the answers as `put_known` does.
+pub fn put_strict(input: &mut Vec<u8>) -> Vec<String> {
+    let mut lines = Vec::new();
+    for (size, block, line) in STRICT {
+        let bytes = block
+            .iter()
+            .flat_map(|(times, hex)| bytes_of(hex).repeat(*times));
+        put(input, 15, *size, 0, &bytes.collect::<Vec<u8>>());
+        lines.push(
+            line.iter()
+                .map(|(times, text)| text.repeat(*times))
+                .collect(),
+        );
+    }
+    lines
+}
+
 /// Fives in blocks and lists: some thousands, and the most that there may be; then one byte or number
 /// more, refused before all else that is wrong, and the longest list that a frame holds.
 fn put_limits(input: &mut Vec<u8>) -> Vec<String> {
@@ -723,6 +783,7 @@ fn put_long_places(input: &mut Vec<u8>) -> Vec<String> {
 pub fn check() -> Result<(), String> {
     let mut known = Vec::new();
     let mut lines = put_known(&mut known);
+    lines.extend(put_strict(&mut known));
     lines.extend(put_long(&mut known));
     let items = frames(&known);
     if items.len() != lines.len() {

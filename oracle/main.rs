@@ -11,8 +11,8 @@
 //!
 //! frames.rs has the layout of a frame; numbers.rs and blocks.rs the rules; answers.rs the line for
 //! each op and listing.rs the listing; known.rs the answers written down by hand; cases.rs and
-//! block_cases.rs the cases, random.rs what they draw from a seed; trying.rs the inputs that `list`
-//! is run on.
+//! block_cases.rs the cases, strict_cases.rs more of them for strict reading, random.rs what they
+//! draw from a seed; trying.rs the inputs that `list` is run on.
 //! Built by: rustc -O --edition 2021 -o target/oracle/oracle oracle/main.rs
 
 mod answers;
@@ -24,6 +24,7 @@ mod known;
 mod listing;
 mod numbers;
 mod random;
+mod strict_cases;
 mod trying;
 
 use frames::Item;

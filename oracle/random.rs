@@ -2,7 +2,7 @@
 //!
 //!   Random                    the generator
 //!   below, byte               any number below a limit, any byte
-//!   number, far               a number of a width, a place past the end
+//!   number, number_of, far    a number of a width or of a length, a place past the end
 //!   bytes, damaged, lengthen, longest, part   bytes that may be a form or not
 //!   block, list_block         a block of groups of every kind, or of forms alone
 
@@ -63,6 +63,21 @@ impl Random {
             v
         };
         v.clamp(rule.smallest(), rule.largest())
+    }
+
+    /// A number whose unsigned form has just so many bytes, at times the lowest or the highest.
+    pub fn number_of(&mut self, count: usize) -> i128 {
+        let least = if count == 1 {
+            0
+        } else {
+            power(7 * (count - 1))
+        };
+        let above = power(7 * count).min(U64.largest() + 1);
+        match self.below(8) {
+            0 => least,
+            1 => above - 1,
+            _ => least + self.next() as i128 % (above - least),
+        }
     }
 
     /// A place past the end of every buffer here, up to the largest there is.

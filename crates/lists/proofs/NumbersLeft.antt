@@ -18,10 +18,10 @@ use Rattle.groups.specs.Width.{reading}
 use Rattle.groups.proofs.Run.{run-within}
 use Rattle.groups.proofs.Stands.{reading-count, reading-alone}
 use Rattle.uleb128.specs.Unsigned.{u64}
-use Rattle.quick_laws.specs.Left.{Left, done, one, lows}
-use Rattle.quick_laws.specs.Sound.{Clean}
-use Rattle.quick_laws.proofs.CleanLeft.{clean-left}
-use Rattle.quick_laws.proofs.Lows.{number-closed, lows-whole}
+use Rattle.lists.specs.InnerLeft.{Left, done, one, lows}
+use Rattle.lists.specs.InnerSound.{Clean}
+use Rattle.lists.proofs.quick.CleanLeft.{clean-left}
+use Rattle.lists.proofs.quick.LowBytes.{number-closed, lows-whole}
 use Rattle.lists.specs.Strict.{joined, numbers}
 use Rattle.lists.specs.Inner.{many}
 use Rattle.lists.proofs.NumbersInFront.{numbers-group, numbers-tail, numbers-none}

@@ -20,7 +20,7 @@ use Rattle.words.specs.declared.Refusal.the-variants.{TooLong, NoRoom}
 use Rattle.words.proofs.OneMeaning.{apart}
 use Rattle.groups.specs.Group.{Bytes}
 use Rattle.blocks.specs.Block.{blockLimit}
-use Rattle.quick_laws.specs.Halves.{AllFit, AllStored}
+use Rattle.lists.specs.InnerHalves.{AllFit, AllStored}
 use Rattle.lists.specs.Strict.{numbers, counted, filling, strict, filled}
 use Rattle.lists.specs.Inner.{many}
 use Rattle.lists.specs.Promise.{meansReadList, ReadsStrict}

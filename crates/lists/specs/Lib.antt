@@ -2,3 +2,8 @@ pub mod Lists
 pub mod Promise
 pub mod Strict
 pub mod Inner
+pub mod InnerLeft
+pub mod InnerSound
+pub mod InnerWord
+pub mod InnerWide
+pub mod InnerHalves

@@ -3,7 +3,7 @@ use bits::is_high_8_bit_set;
 ghost use mathlib.Core.Path.{_≡_};
 ghost use Prim.Native.Nat.{_+_, _-_, _≤_, _<_};
 ghost use lib.ListN.{length, take, drop};
-ghost use Rattle.quick_laws.specs.Left.{lows};
+ghost use Rattle.lists.specs.InnerLeft.{lows};
 
 // So many at most are counted in one byte.
 const PART: usize = 128;

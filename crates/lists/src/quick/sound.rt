@@ -5,7 +5,7 @@ ghost use mathlib.Core.Path.{_≡_};
 ghost use mathlib.Core.Bool.{true};
 ghost use Prim.Native.Nat.{_+_, _≤_, _<_};
 ghost use lib.ListN.{length};
-ghost use Rattle.quick_laws.specs.Sound.{High9, Unmarked, UnmarkedEarly, Clean};
+ghost use Rattle.lists.specs.InnerSound.{High9, Unmarked, UnmarkedEarly, Clean};
 
 // Marked if both are.
 fn both(a: u8, b: u8) -> u8

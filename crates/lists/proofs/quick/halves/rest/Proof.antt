@@ -2,7 +2,7 @@
 use Prim.Native.Nat.{_-_}
 use native.Mathlib.Omega.{arith}
 use borrow.Author.Needs.{needs}
-use Rattle.quick_laws.proofs.RestLoop.{Poured, none-poured, OnePoured, one-poured, not-refused, all-poured}
+use Rattle.lists.proofs.quick.RestLoop.{Poured, none-poured, OnePoured, one-poured, not-refused, all-poured}
 use Rattle.lists.proofs.quick.halves.rest.Statement.{statement}
 use Rattle.lists.proofs.quick.halves.rest.Tie as tie
 

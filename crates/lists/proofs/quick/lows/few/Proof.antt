@@ -3,7 +3,7 @@ use Prim.Native.Nat.{_-_}
 use mathlib.Core.Logic.{⊎-elim}
 use borrow.Author.Needs.{needs}
 use Rattle.bits.proofs.HighBit.{bit-clear, bit-set}
-use Rattle.quick_laws.proofs.CountLoop.{Counted, none-counted, low-counted, high-counted, all-counted}
+use Rattle.lists.proofs.quick.CountLoop.{Counted, none-counted, low-counted, high-counted, all-counted}
 use Rattle.lists.proofs.quick.lows.few.Statement.{statement}
 use Rattle.lists.proofs.quick.lows.few.Tie as tie
 

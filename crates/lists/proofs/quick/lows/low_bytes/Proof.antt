@@ -2,7 +2,7 @@
 use Prim.Native.Nat.{_-_}
 use native.Mathlib.Omega.{arith}
 use borrow.Author.Needs.{needs}
-use Rattle.quick_laws.proofs.CountLoop.{Counted, none-counted, part-counted, before-counted}
+use Rattle.lists.proofs.quick.CountLoop.{Counted, none-counted, part-counted, before-counted}
 use Rattle.lists.proofs.quick.lows.low_bytes.Statement.{statement}
 use Rattle.lists.proofs.quick.lows.low_bytes.Tie as tie
 

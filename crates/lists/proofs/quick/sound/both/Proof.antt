@@ -1,5 +1,5 @@
 -- `lists::both` keeps what it promises inside the crate.
-use Rattle.quick_laws.proofs.Marks.{high-and}
+use Rattle.lists.proofs.quick.Marks.{high-and}
 use Rattle.lists.proofs.quick.sound.both.Statement.{statement}
 use Rattle.lists.proofs.quick.sound.both.Tie as tie
 

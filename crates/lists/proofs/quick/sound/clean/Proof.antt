@@ -2,7 +2,7 @@
 use mathlib.Core.Path.{refl}
 use borrow.Author.Needs.{needs}
 use Rattle.words.proofs.Cases.{clash}
-use Rattle.quick_laws.proofs.Marks.{none-marked}
+use Rattle.lists.proofs.quick.Marks.{none-marked}
 use Rattle.lists.proofs.quick.sound.clean.Statement.{statement}
 use Rattle.lists.proofs.quick.sound.clean.Tie as tie
 

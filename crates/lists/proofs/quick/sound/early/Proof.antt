@@ -1,7 +1,7 @@
 -- `lists::early` keeps what it promises inside the crate: the loop holds `Judged`, and each turn is a law of `Marks`.
 use Prim.Native.Nat.{_-_}
 use borrow.Author.Needs.{needs}
-use Rattle.quick_laws.proofs.Marks.{NotSpare, Judged, none-judged, one-judged, low-early, all-early}
+use Rattle.lists.proofs.quick.Marks.{NotSpare, Judged, none-judged, one-judged, low-early, all-early}
 use Rattle.lists.proofs.quick.sound.early.Statement.{statement}
 use Rattle.lists.proofs.quick.sound.early.Tie as tie
 

@@ -2,7 +2,7 @@
 use Prim.Native.Nat.{_-_}
 use borrow.Author.Needs.{needs}
 use lib.ListN.{length}
-use Rattle.quick_laws.proofs.Marks.{Neither, Judged, none-judged, one-judged, low-mark, all-later}
+use Rattle.lists.proofs.quick.Marks.{Neither, Judged, none-judged, one-judged, low-mark, all-later}
 use Rattle.lists.proofs.quick.sound.later.Statement.{statement}
 use Rattle.lists.proofs.quick.sound.later.Tie as tie
 

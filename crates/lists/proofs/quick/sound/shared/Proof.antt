@@ -1,7 +1,7 @@
 -- `lists::shared` keeps what it promises inside the crate.
 use native.Mathlib.Omega.{arith}
 use borrow.Author.Needs.{needs}
-use Rattle.quick_laws.proofs.Marks.{nine-high}
+use Rattle.lists.proofs.quick.Marks.{nine-high}
 use Rattle.lists.proofs.quick.sound.shared.Statement.{statement}
 use Rattle.lists.proofs.quick.sound.shared.Tie as tie
 

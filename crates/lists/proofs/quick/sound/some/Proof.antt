@@ -1,5 +1,5 @@
 -- `lists::some` keeps what it promises inside the crate.
-use Rattle.quick_laws.proofs.Marks.{or-most}
+use Rattle.lists.proofs.quick.Marks.{or-most}
 use Rattle.lists.proofs.quick.sound.some.Statement.{statement}
 use Rattle.lists.proofs.quick.sound.some.Tie as tie
 
