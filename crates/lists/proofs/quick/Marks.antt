@@ -1,8 +1,9 @@
 -- The marks of the sound scan. A mark says something by its bit of weight 128 only.
 --
---   high-and                  two bytes of 128 or more share that bit
+--   high-and                  two bytes of 128 or more share that bit,
+--   nine-high                 and so do nine
 --   or-most                   what has the bits of both is no less than either
---   nine-high                 of nine bytes that are 128 or more, the first is
+--   either-mark               two marks joined, each of bytes of 128 or more that share the bit
 --   NotSpare s j              the byte at j isn't spare; `Neither s j`: nor is it too large
 --   Judged P from marks k     the places from `from` up to k are judged: where marks is below 128, P holds of each
 --   none-judged, one-judged   at first, none; and a place more, by a mark of its own that is joined to the others
@@ -19,6 +20,7 @@ use lib.ListN.{length, getD}
 use Rattle.words.proofs.Cases.{by-order}
 use Rattle.bits.specs.Macros.{isHigh8BitSet}
 use Rattle.bits.proofs.HighBit.{bit-clear}
+use Rattle.groups.specs.Group.{Bytes}
 use Rattle.lists.specs.InnerSound.{High9, Spare, Large, Unmarked, UnmarkedEarly, Clean}
 
 pub high-and : (a b : ℕ) → a < 256 → b < 256 → 128 ≤ a → 128 ≤ b → 128 ≤ bitAnd a b
@@ -31,8 +33,30 @@ high-and a b i j h k =
 pub or-most : (a b : ℕ) → (a ≤ bitOr a b) × (b ≤ bitOr a b)
 or-most a b = (omega (arith, or-add-and a b, and-le-r a b), omega (arith, or-add-and a b, and-le-l a b))
 
-pub nine-high : (s : List ℕ) (k : ℕ) → High9 s k → 128 ≤ getD s k 0
-nine-high s k f = let e : k + 0 ≡ k = omega arith in rw e at (f 0 (omega arith))
+pub either-mark : {a b c d : ℕ} {P Q : Type 0} → a < 256 → b < 256 → c < 256 → d < 256 → (P → 128 ≤ b) → (Q → 128 ≤ d)
+    → (128 ≤ a → P → 128 ≤ bitOr (bitAnd a b) (bitAnd c d)) × (128 ≤ c → Q → 128 ≤ bitOr (bitAnd a b) (bitAnd c d))
+either-mark {a} {b} {c} {d} h i j k p q =
+    let m = or-most (bitAnd a b) (bitAnd c d) in
+    (λ l x. omega (arith, m .0, high-and a b h i l (p x)), λ l x. omega (arith, m .1, high-and c d j k l (q x)))
+
+-- three bytes that are 128 or more
+three-high : (a b c : ℕ) → a < 256 → b < 256 → c < 256 → 128 ≤ a → 128 ≤ b → 128 ≤ c
+    → (128 ≤ bitAnd (bitAnd a b) c) × (bitAnd (bitAnd a b) c < 256)
+three-high a b c h i j k l m =
+    let x = high-and a b h i k l in
+    let y : bitAnd a b < 256 = omega (arith, and-le-l a b) in
+    (high-and (bitAnd a b) c y j x m, omega (arith, and-le-l (bitAnd a b) c))
+
+pub nine-high : (s : List ℕ) (k : ℕ) → Bytes s → High9 s k
+    → 128 ≤ bitAnd
+    (bitAnd (bitAnd (bitAnd (getD s k 0) (getD s (k + 1) 0)) (getD s (k + 2) 0)) (bitAnd (bitAnd (getD s (k + 3) 0) (getD s (k + 4) 0)) (getD s (k + 5) 0)))
+    (bitAnd (bitAnd (getD s (k + 6) 0) (getD s (k + 7) 0)) (getD s (k + 8) 0))
+nine-high s k l f =
+    let z : 128 ≤ getD s k 0 = let e : k + 0 ≡ k = omega arith in rw e at (f 0 (omega arith)) in
+    let a = three-high _ _ _ (l k) (l (k + 1)) (l (k + 2)) z (f 1 (omega arith)) (f 2 (omega arith)) in
+    let b = three-high _ _ _ (l (k + 3)) (l (k + 4)) (l (k + 5)) (f 3 (omega arith)) (f 4 (omega arith)) (f 5 (omega arith)) in
+    let c = three-high _ _ _ (l (k + 6)) (l (k + 7)) (l (k + 8)) (f 6 (omega arith)) (f 7 (omega arith)) (f 8 (omega arith)) in
+    three-high _ _ _ (a .1) (b .1) (c .1) (a .0) (b .0) (c .0) .0
 
 abbrev pub NotSpare : List ℕ → ℕ → Type 0
 NotSpare s j = Spare s j → ⊥

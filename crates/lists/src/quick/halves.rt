@@ -56,7 +56,7 @@ fn rest(s: &[u8], numbers: &mut [u64], from: usize, to: usize, start: usize)
     }
 }
 
-// n less 16, or 0.
+// n less 16, or 0: asked once, so that the loop's head compares and adds nothing.
 fn but_16(n: usize) -> usize
     ensures { λ r. ⌜ r ≡ n - 16 ⌝ }
 {
@@ -66,7 +66,8 @@ fn but_16(n: usize) -> usize
     n - 16
 }
 
-// Whether both streams have 17 numbers left: so many bytes, and room for so many, are then left too.
+// Whether both streams have 17 numbers left: so many bytes, and room for so many, are then left too. Two comparisons, guessed right but for
+// the last.
 fn go_on(n: usize, most: usize, n2: usize, most2: usize) -> bool
     ensures { λ r. ⌜ (r ≡ true → (n < most) × (n2 < most2)) ⌝ }
 {
@@ -77,8 +78,8 @@ fn go_on(n: usize, most: usize, n2: usize, most2: usize) -> bool
 }
 
 // From 0 to mid, whose numbers end at half, and from mid to the end, whose numbers end at count. Where the next number of a stream begins is
-// known only when the last was taken: meanwhile the processor works on the other stream. A turn takes up to 17 numbers of each: a long one, and then up to
-// sixteen small ones.
+// known only when the last was taken: meanwhile the processor works on the other stream. A turn takes up to 17 numbers of each, a long one
+// and then up to sixteen small ones.
 fn fill_halves(s: &[u8], numbers: &mut [u64], mid: usize, half: usize, count: usize)
     requires { ⌜ HalvesFit (now s) mid half count (length (now numbers)) ⌝ }
     ensures { λ _. ⌜ HalvesStored (now (s .entry)) mid half count (now (numbers .entry)) (now (numbers .exit)) ⌝ }
@@ -112,7 +113,7 @@ fn fill_halves(s: &[u8], numbers: &mut [u64], mid: usize, half: usize, count: us
     rest(s, numbers, at2, end, n2);
 }
 
-// The greatest start at or before a place.
+// The greatest start at or before a place: in a block of numbers it is less than ten bytes away.
 fn start_before(s: &[u8], place: usize) -> usize
     requires { ⌜ place ≤ length (now s) ⌝ }
     ensures { λ r. ⌜ Start (now (s .entry)) r ⌝ }
@@ -129,7 +130,8 @@ fn start_before(s: &[u8], place: usize) -> usize
     at
 }
 
-// The numbers of a block without a fault, so many of them, from the front of the slice on.
+// The numbers of a block without a fault, so many of them, from the front of the slice on. The halves are equal in bytes, since their start is
+// then found at once.
 pub(crate) fn fill(s: &[u8], numbers: &mut [u64], count: usize)
     requires { ⌜ AllFit (now s) count (length (now numbers)) ⌝ }
     ensures { λ _. ⌜ AllStored (now (s .entry)) (now (numbers .entry)) (now (numbers .exit)) ⌝ }

@@ -5,9 +5,10 @@ ghost use Prim.Native.Nat.{_+_, _-_, _≤_, _<_};
 ghost use lib.ListN.{length, take, drop};
 ghost use Rattle.lists.specs.InnerLeft.{lows};
 
-// So many at most are counted in one byte.
+// So many bytes at most are counted in one.
 const PART: usize = 128;
 
+// A byte's number. A cast in a function of its own asks nothing where it is called, and costs nothing: it is inlined.
 fn as_usize(x: u8) -> usize
     ensures { λ r. ⌜ r ≡ x ⌝ }
 {
@@ -31,7 +32,7 @@ fn few(s: &[u8], from: usize, to: usize) -> u8
     n
 }
 
-// Where the part from a place on ends.
+// Where the part from a place on ends: a comparison for each part, none for each byte.
 fn part_end(from: usize, to: usize) -> usize
     requires { ⌜ from < to ⌝ }
     ensures { λ r. ⌜ (from < r) × (r ≤ to) × (r ≤ from + 128) ⌝ }
@@ -42,7 +43,7 @@ fn part_end(from: usize, to: usize) -> usize
     to
 }
 
-// How many before a place.
+// How many before a place: the parts' counts, added up.
 pub(crate) fn low_bytes(s: &[u8], to: usize) -> usize
     requires { ⌜ to ≤ length (now s) ⌝ }
     ensures { λ r. ⌜ r ≡ lows (take to (now (s .entry))) ⌝ }

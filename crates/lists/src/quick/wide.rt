@@ -17,13 +17,15 @@ pub(crate) struct Taken {
     pub n: usize,
 }
 
+// A byte's number. A cast in a function of its own asks nothing where it is called, and costs nothing: it is inlined.
 fn as_u64(x: u8) -> u64
     ensures { λ r. ⌜ r ≡ x ⌝ }
 {
     x as u64
 }
 
-// Two bytes as one number, low byte first.
+// Two bytes as one number, low byte first. By `|` and `<<`, here and in the next two: LLVM makes one load of all eight bytes of it, where a sum or
+// Horner's rule becomes five or eight.
 fn word2(s: &[u8], at: usize) -> u64
     requires { ⌜ at + 2 ≤ length (now s) ⌝ }
     ensures { λ r. ⌜ r ≡ little (take 2 (drop at (now (s .entry)))) ⌝ }
@@ -43,7 +45,7 @@ fn word4(s: &[u8], at: usize) -> u64
     low | (high << 16)
 }
 
-// Eight bytes. By `|` and `<<` LLVM makes one load of it all; as a sum, or by Horner's rule, five or eight.
+// Eight bytes.
 fn word8(s: &[u8], at: usize) -> u64
     requires { ⌜ at + 8 ≤ length (now s) ⌝ }
     ensures { λ r. ⌜ r ≡ little (take 8 (drop at (now (s .entry)))) ⌝ }
@@ -53,21 +55,21 @@ fn word8(s: &[u8], at: usize) -> u64
     low | (high << 32)
 }
 
-// The high bits of the eight bytes.
+// The high bits of the eight bytes: one `&`.
 fn highs(w: u64) -> u64
     ensures { λ r. ⌜ r ≡ little (each top (spread 8 w)) ⌝ }
 {
     w & 0x8080808080808080
 }
 
-// The same, turned over: the bytes below 128.
+// The same, turned over: the bytes below 128. One subtraction, in which no byte borrows from the next.
 fn marks(w: u64) -> u64
     ensures { λ r. ⌜ r ≡ little (each mark (spread 8 w)) ⌝ }
 {
     0x8080808080808080 - highs(w)
 }
 
-// The seven bits of each of the eight bytes, still in its byte.
+// The seven bits of each of the eight bytes, still in its byte: one `&`.
 fn low_digits(w: u64) -> u64
     ensures { λ r. ⌜ r ≡ little (each low (spread 8 w)) ⌝ }
 {
@@ -96,7 +98,7 @@ fn join(w: u64) -> u64
     y - 4026531840 * c
 }
 
-// The number that the seven bits of eight bytes make.
+// The number that the seven bits of eight bytes make: no branch for how many of them count.
 fn joined(w: u64) -> u64
     ensures { λ r. ⌜ r ≡ digits (spread 8 w) ⌝ }
 {
@@ -136,7 +138,7 @@ fn short(w: u64, m: u64) -> Taken
     Taken { v, n }
 }
 
-// A number of two bytes.
+// A number of two bytes, without waiting for where the first byte below 128 is.
 fn two(w: u64) -> Taken
     requires { ⌜ run (spread 8 w) ≡ 1 ⌝ }
     ensures { λ r. ⌜ Found (spread 8 w) (r .v) (r .n) ⌝ }
@@ -165,7 +167,7 @@ pub(crate) fn at_once(s: &[u8], at: usize) -> Taken
     short(w, m)
 }
 
-// Stores two bytes as numbers.
+// Stores two bytes as numbers. Here and in the next three there is no loop and no branch: LLVM stores two numbers at once.
 fn store2(s: &[u8], at: usize, numbers: &mut [u64], n: usize)
     requires { ⌜ (at + 2 ≤ length (now s)) × (n + 2 ≤ length (now numbers)) ⌝ }
     ensures { λ _. ⌜ Widens 2 (now (s .entry)) at (now (numbers .entry)) n (now (numbers .exit)) ⌝ }
@@ -185,8 +187,7 @@ fn store4(s: &[u8], at: usize, numbers: &mut [u64], n: usize)
     store2(s, at + 2, numbers, n + 2);
 }
 
-// Eight bytes, and says how many of them, from the front, are below 128. What was stored behind those is overwritten later. Without a
-// loop and without a branch: LLVM widens the eight at once.
+// Eight bytes, and says how many of them, from the front, are below 128. What was stored behind those is overwritten later.
 fn store8(s: &[u8], at: usize, numbers: &mut [u64], n: usize) -> usize
     requires { ⌜ (at + 8 ≤ length (now s)) × (n + 8 ≤ length (now numbers)) ⌝ }
     ensures { λ r. ⌜ Stores 8 (now (s .entry)) at (now (numbers .entry)) n r (now (numbers .exit)) ⌝ }
