@@ -13,7 +13,7 @@ use native.Mathlib.Omega.{arith}
 use borrow.Author.Tests.{lt-ltb, le-ltb, le-leb, lt-leb}
 use lib.ListN.{length}
 use lib.Seq.{sets, sets-eq}
-use Rattle.words.specs.Answer.{Answer, gives, refused, by, becauseAt, Why}
+use Rattle.words.specs.Answer.{Answer, gives, refused, becauseAt, Why}
 use Rattle.words.specs.declared.Place.{Place}
 use Rattle.words.specs.declared.Refusal.{Refusal}
 use Rattle.words.specs.declared.Refusal.the-variants.{TooLong, NoRoom}

@@ -3,15 +3,13 @@
 --   few-stored          at most k of k bytes are below 128
 --   some-of-eight       where not all of the first eight are below 128, they tell how many of the sixteen are,
 --   all-of-eight        and where they are, the second eight tell it
-use Prim.Native.Nat.{ℕ, suc, _+_, _≤_, _<_}
-use mathlib.Core.Path.{_≡_, ap, sym, _∙_}
-use mathlib.Core.List.{List, [], _∷_, _++_}
+use Prim.Native.Nat.{ℕ, _+_, _≤_, _<_}
+use mathlib.Core.Path.{_≡_, sym, _∙_}
+use mathlib.Core.List.{List, _++_}
 use native.Mathlib.Nat.{min-le-left}
 use native.Mathlib.Omega.{arith}
 use lib.ListN.{length, take, drop, length-drop, length-take}
-use lib.Seq.{sets, take-add, drop-drop, length-take-le}
-use Rattle.words.proofs.Cases.{by-order}
-use Rattle.words.proofs.Lays.{sets-append}
+use lib.Seq.{length-take-le}
 use Rattle.lists.specs.InnerWord.{smalls}
 use Rattle.lists.specs.InnerWide.{Widens, Stores}
 use Rattle.lists.proofs.quick.Smalls.{smalls-within, smalls-first, smalls-both}

@@ -16,7 +16,7 @@ use Rattle.groups.specs.Group.{run}
 use Rattle.groups.proofs.Run.{run-low, run-high, run-within}
 use Rattle.lists.specs.InnerWord.{based, little, spread, each, top, mark, zeros, smalls, Below, Flags, none, clear, flag}
 use Rattle.lists.proofs.quick.Bytewise.{below-spread, length-spread, length-each, spread-each}
-use Rattle.lists.proofs.quick.Smalls.{smalls-none, small-low, small-high}
+use Rattle.lists.proofs.quick.Smalls.{small-low, small-high}
 
 pub record Tells (f : ℕ → ℕ) (count : List ℕ → ℕ) : Type 0 where
   pub empty : count [] ≡ 0

@@ -2,7 +2,7 @@
 --
 --   lows-below, lows-digits           the seven bits of each byte of a word are below 128, and their digits are those of the word
 --   digits-eight                      the digits of eight bytes are below 128 to the 8
---   weight-some                       the weight that the source shifts to its place is not 0
+--   weight-some                       the weight that `short` shifts to its place is not 0
 --   found-short                       the remainder by the weight is the number of the bytes through the first below 128
 --   found-two                         so are the digits of two bytes, where the second is the first below 128
 --   run-one                           which the mask for two bytes tells

@@ -2,7 +2,7 @@
 --
 --   twos d g                        the pairs of neighbours in g, each as one number in the base d
 --   seconds g                       every second element of g
---   pairUp e b mask w               a step of the source: the second digits in the base b, found by the mask, taken off e times
+--   pairUp e b mask w               a step of `join`: the second digits in the base b, found by the mask, taken off e times
 --   byPairs, byFours, byEights      its three steps; the last has one pair, and so no mask
 --   paired-up                       where the digits are small enough, a step leaves the pairs, for any base and any smaller one
 --   joined-digits                   the three steps, from eight bytes below 128 to the number that they are the digits of

@@ -4,15 +4,15 @@
 --   both-words    the numbers of two parts, the second shifted behind the first and ored to it, are the number of both
 --   both-stored   what stores a part, and the other behind it, stores both
 --   two-word, two-stored   so it is with two bytes, each of which is a part
-use Prim.Native.Nat.{ℕ, suc, _+_, _*_, _%_, _^_, _≤_, _<_}
+use Prim.Native.Nat.{ℕ, _+_, _*_, _%_, _^_, _≤_, _<_}
 use mathlib.Core.Path.{_≡_, refl, ap, sym, _∙_}
 use mathlib.Core.List.{List, [], _∷_, _++_}
-use native.Mathlib.Nat.{mul-comm, mul-add, mul-assoc, pow-succ'}
+use native.Mathlib.Nat.{mul-comm, mul-assoc, pow-succ'}
 use native.Mathlib.Omega.{arith}
 use lib.Bits.{bitOr, or-shifted-r}
 use lib.ListN.{length, getD, take, drop, set, length-drop}
 use lib.Pow.{shl-exact}
-use lib.Seq.{sets, getD-drop, drop-cons, drop-drop, take-add, length-take-le}
+use lib.Seq.{getD-drop, drop-cons, drop-drop, take-add, length-take-le}
 use Rattle.words.proofs.Lays.{sets-append}
 use Rattle.groups.specs.Group.{Bytes}
 use Rattle.lists.specs.InnerWord.{based, little, Below}

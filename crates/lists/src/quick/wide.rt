@@ -84,8 +84,8 @@ fn first(h: u64) -> usize
     (u64::trailing_zeros(h) / 8) as usize
 }
 
-// Eight digits put together, by pairs (256 becomes 128), by fours (65,536 becomes 16,384) and by eights (2^32 becomes 2^28): three steps
-// where one digit after another would be eight, each waiting for the one before.
+// Eight digits put together, by pairs (256 becomes 128), by fours (65,536 becomes 16,384) and by eights (2^32 becomes 2^28), each by taking
+// the difference off: three steps where one digit after another would be eight, each waiting for the one before.
 fn join(w: u64) -> u64
     requires { ⌜ Below 128 (spread 8 w) ⌝ }
     ensures { λ r. ⌜ r ≡ digits (spread 8 w) ⌝ }
@@ -105,8 +105,8 @@ fn joined(w: u64) -> u64
     join(low_digits(w))
 }
 
-// A number of nine or ten bytes: w has eight of them, b is the ninth; a tenth can only be 1. Each length has a way of its own: without the
-// branch, the next number of a block of such numbers would wait for the ninth byte.
+// A number of nine or ten bytes: w has eight of them, b is the ninth, whose digit weighs 2^56; a tenth can only be 1, and weighs 2^63. Each
+// length has a way of its own: without the branch, the next number of a block of such numbers would wait for the ninth byte.
 fn longest(w: u64, b: u8) -> Taken
     ensures { λ r. ⌜ Longest (spread 8 w) b (r .v) (r .n) ⌝ }
 {
