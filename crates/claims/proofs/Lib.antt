@@ -1,6 +1,7 @@
 mod TableRows
 mod Readers
 mod Decided
+mod Begun
 mod RoundTrips
 mod Forms
 mod Growth
