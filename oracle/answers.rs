@@ -7,6 +7,7 @@ use crate::blocks::{set_down, step, strict, write_list, Step, StrictRefusal};
 use crate::frames::{hex, Frame, Item};
 use crate::listing::listing;
 use crate::numbers::{length, power, read, write, Refusal, RefusalAt, Rule, THREAD};
+use crate::slips::{bits_of, body_length, lies_in_range, read_slip, write_slip, Setting};
 use std::cmp::Ordering;
 use Rule::*;
 
@@ -33,6 +34,9 @@ pub fn answer(item: &Item) -> String {
         16 => list_line(frame),
         17 => turn_line(frame),
         18 => listing_line(frame),
+        19 => slip_line(frame),
+        20 => slip_write_line(frame),
+        21 => question_line(frame),
         _ => UNKNOWN.to_string(),
     }
 }
@@ -156,6 +160,45 @@ fn turn_meaning(turn: i128, code: u8) -> Result<&'static str, Refusal> {
 /// The refusal of a block too long is a text too, the one that the listing program writes.
 fn listing_line(frame: &Frame) -> String {
     format!("text {}", hex(listing(frame.bytes).as_bytes()))
+}
+
+/// "A setting is nothing, a torque, an angle or a torque range", by its kind.
+const SETTINGS: [&str; 4] = ["nothing", "torque", "angle", "range"];
+
+fn slip_line(frame: &Frame) -> String {
+    match read_slip(frame.bytes, frame.a) {
+        Ok((setting, count)) => {
+            let mut line = SETTINGS[setting.kind as usize].to_string();
+            for bits in setting.bits {
+                line += &format!(" {bits}");
+            }
+            line + &format!(" {count}")
+        }
+        Err(refusal) => format!("refused {refusal}"),
+    }
+}
+
+fn slip_write_line(frame: &Frame) -> String {
+    let length = body_length(frame.a);
+    let Some((body, rest)) = length.and_then(|length| frame.bytes.split_at_checked(length)) else {
+        return UNKNOWN.to_string();
+    };
+    let setting = Setting {
+        kind: frame.a as u8,
+        bits: bits_of(body),
+    };
+    let mut buffer = rest.to_vec();
+    let written = write_slip(&setting, &mut buffer, frame.b);
+    format!("{} {}", count_or_refused(written), hex(&buffer))
+}
+
+fn question_line(frame: &Frame) -> String {
+    if frame.bytes.len() != 12 {
+        return UNKNOWN.to_string();
+    }
+    let bits = bits_of(frame.bytes);
+    let lies = lies_in_range(bits[0], bits[1], bits[2]);
+    (if lies { "yes" } else { "no" }).to_string()
 }
 
 /// The number that a frame's a stands for, if the width has it: signed in two's complement.

@@ -1,13 +1,15 @@
-//! Answers written down by hand from document 01, from document 02 (#101, #105, #108) and from the
-//! examples of DWARF 5, so that no expected output rests on this program's word alone.
+//! Answers written down by hand from document 01, from document 02 (#101, #104, #105, #108) and
+//! from the examples of DWARF 5, so that no expected output rests on this program's word alone.
 //!
 //!   READ, WRITE, LENGTH   the cases for numbers, each with its answer line
 //!   BLOCK, LIST, TURN     those for blocks, lists and turns
 //!   READ_PLACE, BLOCK_PLACE, LONG_PLACE   those for the byte that decided a refusal or a gap
 //!   STRICT                those for strict reading that may be done in parts
+//!   SLIP, SLIP_WRITE, QUESTION, SLIP_FRAME   those for setting slips
 //!   put_limits            those with a block or list as long as it may be, or longer
 //!   put_known             all of these as frames
 //!   put_strict            those of STRICT as frames
+//!   put_slips             those for setting slips as frames
 //!   put_long              those of the large run alone
 //!   LISTING               the named inputs for the listing, each with its text
 //!   TEXT                  other blocks, each with the text of its listing
@@ -35,6 +37,15 @@ type Turn = (&'static [u64], i128, &'static str);
 /// (size of the slice, so many times these bytes in hex, so many times this text of the answer)
 type Strict = (u64, &'static [Times], &'static [Times]);
 type Times = (usize, &'static str);
+
+/// (start, bytes in hex, answer)
+type Slip = (u64, &'static str, &'static str);
+/// (kind, place, bits in hex, buffer in hex, answer)
+type SlipWrite = (u64, u64, &'static str, &'static str, &'static str);
+/// (bits of torque, lowest, highest, answer)
+type Question = (u32, u32, u32, &'static str);
+/// (op, a, b, bytes in hex, answer)
+type AnyFrame = (u8, u64, u64, &'static str, &'static str);
 
 /// The 17 bytes of document 01's listing, and the same with the two bytes at 3 mended.
 const DOCUMENT: &str = "00 80 01 80 00 ff ff ff ff ff ff ff ff ff 02 05 83";
@@ -477,6 +488,261 @@ const STRICT: &[Strict] = &[
     (256, &[(257, "05")], &[(1, "refused 5"), (256, LEFT)]),
 ];
 
+/// Document 02, #104, in the order of its sentences.
+#[rustfmt::skip]
+const SLIP: &[Slip] = &[
+    // "Kind 0 has no body, 1 is a torque (4 bytes), 2 an angle (4), 3 a lowest and a highest torque
+    // (8)": 1; 1; 10 and 20.
+    (0, "00", "nothing 1"),
+    (0, "01 00 00 80 3f", "torque 1065353216 5"),
+    (0, "02 00 00 80 3f", "angle 1065353216 5"),
+    (0, "03 00 00 20 41 00 00 a0 41", "range 1092616192 1101004800 9"),
+    // "Low byte first": 1 * 2^24 + 2 * 2^16 + 3 * 2^8 + 4, and 44332211 in hex.
+    (0, "01 04 03 02 01", "torque 16909060 5"),
+    (0, "02 11 22 33 44", "angle 1144201745 5"),
+    (0, "03 04 03 02 01 11 22 33 44", "range 16909060 1144201745 9"),
+    // 4 is first: before 1, where no byte is, and before 11, where none is that could be a kind.
+    (1, "", "refused 4"),
+    (2, "00", "refused 4"),
+    (2, "04", "refused 4"),
+    (6, "01 00 00 80 3f", "refused 4"),
+    (4294967296, "00", "refused 4"),
+    (9223372036854775808, "00", "refused 4"),
+    (18446744073709551615, "00", "refused 4"),
+    (18446744073709551615, "", "refused 4"),
+    // "No byte from the start is 1."
+    (0, "", "refused 1"),
+    (1, "00", "refused 1"),
+    (1, "04", "refused 1"),
+    (5, "01 00 00 80 3f", "refused 1"),
+    // "An unknown kind is 11", with nothing behind it and with what would be a body.
+    (0, "04", "refused 11"),
+    (0, "80", "refused 11"),
+    (0, "ff", "refused 11"),
+    (1, "00 05", "refused 11"),
+    (0, "04 00 00 80 3f", "refused 11"),
+    (0, "ff 00 00 80 3f 00 00 80 3f", "refused 11"),
+    // "A short body is 1", also behind other bytes.
+    (0, "01", "refused 1"),
+    (0, "01 00 00 80", "refused 1"),
+    (0, "02", "refused 1"),
+    (0, "02 00 00 80", "refused 1"),
+    (0, "03", "refused 1"),
+    (0, "03 00 00 80 3f", "refused 1"),
+    (0, "03 00 00 20 41 00 00 a0", "refused 1"),
+    (4, "00 00 00 00 01 00 00 80", "refused 1"),
+    // Before 11: the bytes that are there are an infinity's, a not-a-number's, minus zero's, or those
+    // of a torque below zero.
+    (0, "01 ff ff ff", "refused 1"),
+    (0, "03 00 00 80 7f", "refused 1"),
+    (0, "03 00 00 c0 7f 00 00 80", "refused 1"),
+    (0, "03 00 00 00 80 00 00 00", "refused 1"),
+    (0, "03 00 00 80 bf 00 00 80", "refused 1"),
+    // "An infinity."
+    (0, "01 00 00 80 7f", "refused 11"),
+    (0, "01 00 00 80 ff", "refused 11"),
+    (0, "02 00 00 80 7f", "refused 11"),
+    (0, "02 00 00 80 ff", "refused 11"),
+    (0, "03 00 00 80 7f 00 00 80 7f", "refused 11"),
+    (0, "03 00 00 20 41 00 00 80 7f", "refused 11"),
+    (0, "03 00 00 80 ff 00 00 20 41", "refused 11"),
+    // "Or not-a-number", signalling or quiet, the first and the last of each.
+    (0, "01 01 00 80 7f", "refused 11"),
+    (0, "01 ff ff bf 7f", "refused 11"),
+    (0, "01 00 00 c0 7f", "refused 11"),
+    (0, "01 ff ff ff 7f", "refused 11"),
+    (0, "02 01 00 80 7f", "refused 11"),
+    (0, "02 00 00 c0 7f", "refused 11"),
+    (0, "02 01 00 80 ff", "refused 11"),
+    (0, "02 ff ff bf ff", "refused 11"),
+    (0, "02 00 00 c0 ff", "refused 11"),
+    (0, "02 ff ff ff ff", "refused 11"),
+    (0, "03 01 00 80 7f 00 00 a0 41", "refused 11"),
+    (0, "03 00 00 20 41 00 00 c0 7f", "refused 11"),
+    (0, "03 00 00 c0 ff 00 00 c0 ff", "refused 11"),
+    // "For minus zero." Zero is good.
+    (0, "01 00 00 00 80", "refused 11"),
+    (0, "02 00 00 00 80", "refused 11"),
+    (0, "03 00 00 00 80 00 00 20 41", "refused 11"),
+    (0, "03 00 00 00 00 00 00 00 80", "refused 11"),
+    (0, "03 00 00 00 80 00 00 00 80", "refused 11"),
+    (0, "01 00 00 00 00", "torque 0 5"),
+    (0, "02 00 00 00 00", "angle 0 5"),
+    (0, "03 00 00 00 00 00 00 00 00", "range 0 0 9"),
+    // "For a torque below zero": -1, the least in size and the greatest, and a range of such.
+    (0, "01 00 00 80 bf", "refused 11"),
+    (0, "01 01 00 00 80", "refused 11"),
+    (0, "01 ff ff 7f ff", "refused 11"),
+    (0, "03 00 00 80 bf 00 00 80 3f", "refused 11"),
+    (0, "03 00 00 a0 c1 00 00 20 c1", "refused 11"),
+    (0, "03 00 00 00 00 01 00 00 80", "refused 11"),
+    // "An angle may be negative": -90, the least in size and the greatest.
+    (0, "02 00 00 b4 c2", "angle 3266576384 5"),
+    (0, "02 01 00 00 80", "angle 2147483649 5"),
+    (0, "02 ff ff 7f ff", "angle 4286578687 5"),
+    // The least subnormal, the greatest, the least that is none, the greatest of all.
+    (0, "01 01 00 00 00", "torque 1 5"),
+    (0, "01 ff ff 7f 00", "torque 8388607 5"),
+    (0, "01 00 00 80 00", "torque 8388608 5"),
+    (0, "01 ff ff 7f 7f", "torque 2139095039 5"),
+    (0, "02 ff ff 7f 7f", "angle 2139095039 5"),
+    (0, "03 01 00 00 00 ff ff 7f 7f", "range 1 2139095039 9"),
+    // "For a lowest above the highest. Equal ends are good."
+    (0, "03 00 00 a0 41 00 00 20 41", "refused 11"),
+    (0, "03 01 00 80 3f 00 00 80 3f", "refused 11"),
+    (0, "03 00 00 80 3f ff ff 7f 3f", "refused 11"),
+    (0, "03 01 00 00 00 00 00 00 00", "refused 11"),
+    (0, "03 00 00 80 3f 00 00 80 3f", "range 1065353216 1065353216 9"),
+    (0, "03 00 00 80 3f 01 00 80 3f", "range 1065353216 1065353217 9"),
+    (0, "03 ff ff 7f 3f 00 00 80 3f", "range 1065353215 1065353216 9"),
+    // "Bytes behind a body are not looked at."
+    (0, "00 ff", "nothing 1"),
+    (0, "01 00 00 80 3f 00 00 80 7f", "torque 1065353216 5"),
+    (0, "02 00 00 80 3f 04", "angle 1065353216 5"),
+    (0, "03 00 00 80 3f 00 00 80 3f 00 00 00 80", "range 1065353216 1065353216 9"),
+    (0, "01 00 00 80 7f 00", "refused 11"),
+    // Other starts: bytes in front that are no slip, or a bad one; in the middle of a body.
+    (1, "04 01 00 00 80 3f", "torque 1065353216 5"),
+    (5, "01 00 00 80 7f 00", "nothing 1"),
+    (2, "03 00 01 00 00 80 3f 00 00", "torque 1065353216 5"),
+    (5, "01 00 00 80 3f 03 00 00 a0 41 00 00 20 41", "refused 11"),
+];
+
+/// "The writer tests 11 by the same rules, then 5, and changes nothing when it refuses."
+#[rustfmt::skip]
+const SLIP_WRITE: &[SlipWrite] = &[
+    // Each kind, in just enough room.
+    (0, 0, "", "a5", "count 1 00"),
+    (1, 0, "00 00 80 3f", "a5 5a 33 cc 96", "count 5 010000803f"),
+    (2, 0, "00 00 b4 c2", "a5 5a 33 cc 96", "count 5 020000b4c2"),
+    (3, 0, "00 00 20 41 00 00 a0 41", "a5 5a 33 cc 96 69 0f f0 3c", "count 9 03000020410000a041"),
+    // Low byte first; the count and not the end place; the bytes before and behind kept.
+    (0, 2, "", "a5 5a 33 cc", "count 1 a55a00cc"),
+    (1, 2, "04 03 02 01", "a5 5a 33 cc 96 69 0f f0", "count 5 a55a0104030201f0"),
+    (2, 1, "11 22 33 44", "a5 5a 33 cc 96 69 0f f0", "count 5 a502112233440ff0"),
+    (3, 1, "04 03 02 01 11 22 33 44", "a5 5a 33 cc 96 69 0f f0 3c c3 a5", "count 9 a5030403020111223344a5"),
+    // Zero, the greatest, an angle of the least size below zero, equal ends.
+    (1, 0, "00 00 00 00", "a5 5a 33 cc 96", "count 5 0100000000"),
+    (1, 0, "ff ff 7f 7f", "a5 5a 33 cc 96", "count 5 01ffff7f7f"),
+    (2, 0, "01 00 00 80", "a5 5a 33 cc 96", "count 5 0201000080"),
+    (3, 0, "00 00 80 3f 00 00 80 3f", "a5 5a 33 cc 96 69 0f f0 3c", "count 9 030000803f0000803f"),
+    // 5: the last place that fits and the one behind it, one byte too few, none.
+    (1, 1, "00 00 80 3f", "a5 5a 33 cc 96 69", "count 5 a5010000803f"),
+    (1, 2, "00 00 80 3f", "a5 5a 33 cc 96 69", "refused 5 a55a33cc9669"),
+    (2, 0, "00 00 80 3f", "a5 5a 33 cc", "refused 5 a55a33cc"),
+    (3, 0, "00 00 20 41 00 00 a0 41", "a5 5a 33 cc 96 69 0f f0", "refused 5 a55a33cc96690ff0"),
+    (0, 0, "", "", "refused 5 -"),
+    (3, 0, "00 00 20 41 00 00 a0 41", "", "refused 5 -"),
+    // A place at the end and past it; so far that place + bytes needed is 2^64, and more.
+    (0, 2, "", "a5 5a", "refused 5 a55a"),
+    (0, 3, "", "a5 5a", "refused 5 a55a"),
+    (0, 18446744073709551615, "", "a5 5a", "refused 5 a55a"),
+    (1, 18446744073709551611, "00 00 80 3f", "a5 5a 33 cc 96 69", "refused 5 a55a33cc9669"),
+    (3, 18446744073709551607, "00 00 80 3f 00 00 80 3f", "a5 5a 33", "refused 5 a55a33"),
+    (3, 18446744073709551615, "00 00 80 3f 00 00 80 3f", "a5 5a 33 cc 96 69 0f f0 3c c3", "refused 5 a55a33cc96690ff03cc3"),
+    // 11 with room, and each byte kept.
+    (1, 0, "00 00 80 7f", "a5 5a 33 cc 96", "refused 11 a55a33cc96"),
+    (1, 0, "00 00 c0 7f", "a5 5a 33 cc 96", "refused 11 a55a33cc96"),
+    (1, 0, "01 00 80 7f", "a5 5a 33 cc 96", "refused 11 a55a33cc96"),
+    (1, 0, "00 00 00 80", "a5 5a 33 cc 96", "refused 11 a55a33cc96"),
+    (1, 0, "00 00 80 bf", "a5 5a 33 cc 96", "refused 11 a55a33cc96"),
+    (2, 0, "00 00 80 ff", "a5 5a 33 cc 96", "refused 11 a55a33cc96"),
+    (2, 0, "01 00 80 ff", "a5 5a 33 cc 96", "refused 11 a55a33cc96"),
+    (2, 0, "00 00 00 80", "a5 5a 33 cc 96", "refused 11 a55a33cc96"),
+    (3, 0, "00 00 00 80 00 00 80 3f", "a5 5a 33 cc 96 69 0f f0 3c", "refused 11 a55a33cc96690ff03c"),
+    (3, 0, "00 00 a0 41 00 00 20 41", "a5 5a 33 cc 96 69 0f f0 3c", "refused 11 a55a33cc96690ff03c"),
+    // 11 before 5.
+    (1, 0, "00 00 80 7f", "", "refused 11 -"),
+    (2, 1, "00 00 00 80", "a5", "refused 11 a5"),
+    (1, 18446744073709551615, "00 00 80 bf", "a5", "refused 11 a5"),
+    (3, 0, "00 00 a0 41 00 00 20 41", "a5 5a", "refused 11 a55a"),
+];
+
+/// "Yes exactly when it is not under the lowest nor over the highest; a not-a-number among the
+/// three gets no."
+#[rustfmt::skip]
+const QUESTION: &[Question] = &[
+    // Between 10 and 20: 15, both ends, one bit under and over, 1 and 100.
+    (0x41700000, 0x41200000, 0x41a00000, "yes"),
+    (0x41200000, 0x41200000, 0x41a00000, "yes"),
+    (0x41a00000, 0x41200000, 0x41a00000, "yes"),
+    (0x411fffff, 0x41200000, 0x41a00000, "no"),
+    (0x41a00001, 0x41200000, 0x41a00000, "no"),
+    (0x3f800000, 0x41200000, 0x41a00000, "no"),
+    (0x42c80000, 0x41200000, 0x41a00000, "no"),
+    // Equal ends.
+    (0x41200000, 0x41200000, 0x41200000, "yes"),
+    (0x411fffff, 0x41200000, 0x41200000, "no"),
+    (0x41200001, 0x41200000, 0x41200000, "no"),
+    // A not-a-number in each place and in all, quiet or signalling, of both signs.
+    (0x7fc00000, 0x41200000, 0x41a00000, "no"),
+    (0x7f800001, 0x41200000, 0x41a00000, "no"),
+    (0xffc00000, 0xff800000, 0x7f800000, "no"),
+    (0x41700000, 0x7fc00000, 0x41a00000, "no"),
+    (0x41700000, 0xff800001, 0x41a00000, "no"),
+    (0x41700000, 0xffffffff, 0x41a00000, "no"),
+    (0x41700000, 0x41200000, 0x7fc00000, "no"),
+    (0x41700000, 0x41200000, 0x7f800001, "no"),
+    (0x7fc00000, 0x7fc00000, 0x7fc00000, "no"),
+    // Zero and minus zero are equal; the least in size to each side is not.
+    (0x80000000, 0x00000000, 0x3f800000, "yes"),
+    (0x00000000, 0x80000000, 0x80000000, "yes"),
+    (0x80000000, 0x00000000, 0x00000000, "yes"),
+    (0x00000000, 0x00000000, 0x80000000, "yes"),
+    (0x80000000, 0x80000000, 0x80000000, "yes"),
+    (0x00000000, 0xbf800000, 0x80000000, "yes"),
+    (0x00000001, 0x00000000, 0x80000000, "no"),
+    (0x80000001, 0x80000000, 0x00000000, "no"),
+    // Subnormals.
+    (0x00000002, 0x00000001, 0x00000003, "yes"),
+    (0x00000000, 0x00000001, 0x00000003, "no"),
+    (0x00800000, 0x00000001, 0x007fffff, "no"),
+    (0x80000002, 0x80000003, 0x80000001, "yes"),
+    // Infinities.
+    (0x3f800000, 0xff800000, 0x7f800000, "yes"),
+    (0x7f800000, 0x00000000, 0x7f800000, "yes"),
+    (0x7f800000, 0x00000000, 0x7f7fffff, "no"),
+    (0x7f7fffff, 0x7f800000, 0x7f800000, "no"),
+    (0xff800000, 0xff800000, 0x00000000, "yes"),
+    (0xff800000, 0xff7fffff, 0x00000000, "no"),
+    (0x7f800000, 0x7f800000, 0x7f800000, "yes"),
+    (0x7f800000, 0xff800000, 0xff800000, "no"),
+    // A lowest above the highest.
+    (0x41700000, 0x41a00000, 0x41200000, "no"),
+    (0x41200000, 0x41a00000, 0x41200000, "no"),
+    (0x41a00000, 0x41a00000, 0x41200000, "no"),
+    (0x00000000, 0x7f800000, 0xff800000, "no"),
+    // Between -20 and -10: -15, both ends, one bit under and over; other signs.
+    (0xc1700000, 0xc1a00000, 0xc1200000, "yes"),
+    (0xc1a00000, 0xc1a00000, 0xc1200000, "yes"),
+    (0xc1200000, 0xc1a00000, 0xc1200000, "yes"),
+    (0xc1a00001, 0xc1a00000, 0xc1200000, "no"),
+    (0xc11fffff, 0xc1a00000, 0xc1200000, "no"),
+    (0x41700000, 0xc1a00000, 0xc1200000, "no"),
+    (0xc1700000, 0x41200000, 0x41a00000, "no"),
+    (0xbf800000, 0xc1a00000, 0x41200000, "yes"),
+];
+
+/// A kind that there isn't, also one that would be 0 or 1 if it were cut; too few bytes for the
+/// bits; other than twelve bytes; and fields that an op doesn't ask for.
+#[rustfmt::skip]
+const SLIP_FRAME: &[AnyFrame] = &[
+    (20, 4, 0, "00 00 80 3f a5 5a 33 cc 96 69", "unknown"),
+    (20, 255, 0, "a5", "unknown"),
+    (20, 256, 0, "a5", "unknown"),
+    (20, 4294967297, 0, "00 00 80 3f a5 5a 33 cc 96", "unknown"),
+    (20, 18446744073709551615, 0, "", "unknown"),
+    (20, 1, 0, "", "unknown"),
+    (20, 2, 0, "00 00 80", "unknown"),
+    (20, 3, 0, "00 00 80 3f 00 00 80", "unknown"),
+    (20, 3, 18446744073709551615, "00 00 80 7f", "unknown"),
+    (21, 0, 0, "", "unknown"),
+    (21, 0, 0, "00 00 80 3f 00 00 80 3f 00 00 80", "unknown"),
+    (21, 0, 0, "00 00 80 3f 00 00 80 3f 00 00 80 3f 00", "unknown"),
+    (19, 0, 18446744073709551615, "00", "nothing 1"),
+    (21, 18446744073709551615, 18446744073709551615, "00 00 80 3f 00 00 80 3f 00 00 80 3f", "yes"),
+];
+
 #[rustfmt::skip]
 const LIST: &[List] = &[
     (0, &[0, 127, 128, 12857, 18446744073709551615], "a5 5a 33 cc 96 69 0f f0 3c c3 a5 5a 33 cc 96 69", "count 16 007f8001b964ffffffffffffffffff01"),
@@ -664,6 +930,31 @@ pub fn put_strict(input: &mut Vec<u8>) -> Vec<String> {
     lines
 }
 
+/// The known cases for setting slips, which stand before the cases of their kind too. Gives the
+/// answers as `put_known` does.
+pub fn put_slips(input: &mut Vec<u8>) -> Vec<String> {
+    let mut lines = Vec::new();
+    let mut add = |op, a, b, bytes: &[u8], line: &str| {
+        put(input, op, a, b, bytes);
+        lines.push(line.to_string());
+    };
+    for (start, bytes, line) in SLIP {
+        add(19, *start, 0, &bytes_of(bytes), line);
+    }
+    for (kind, place, bits, buffer, line) in SLIP_WRITE {
+        let bytes = [bytes_of(bits), bytes_of(buffer)].concat();
+        add(20, *kind, *place, &bytes, line);
+    }
+    for (torque, lowest, highest, line) in QUESTION {
+        let bytes = [torque, lowest, highest].map(|bits| bits.to_le_bytes());
+        add(21, 0, 0, &bytes.concat(), line);
+    }
+    for (op, a, b, bytes, line) in SLIP_FRAME {
+        add(*op, *a, *b, &bytes_of(bytes), line);
+    }
+    lines
+}
+
 /// Fives in blocks and lists: some thousands, and the most that there may be; then one byte or number
 /// more, refused before all else that is wrong, and the longest list that a frame holds.
 fn put_limits(input: &mut Vec<u8>) -> Vec<String> {
@@ -784,6 +1075,7 @@ pub fn check() -> Result<(), String> {
     let mut known = Vec::new();
     let mut lines = put_known(&mut known);
     lines.extend(put_strict(&mut known));
+    lines.extend(put_slips(&mut known));
     lines.extend(put_long(&mut known));
     let items = frames(&known);
     if items.len() != lines.len() {

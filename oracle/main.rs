@@ -9,10 +9,10 @@
 //!   oracle try-list few COMMAND [WORD...]    runs a command on inputs for the listing, and says
 //!   oracle try-list many COMMAND [WORD...]   where it writes something else
 //!
-//! frames.rs has the layout of a frame; numbers.rs and blocks.rs the rules; answers.rs the line for
-//! each op and listing.rs the listing; known.rs the answers written down by hand; cases.rs and
-//! block_cases.rs the cases, strict_cases.rs more of them for strict reading, random.rs what they
-//! draw from a seed; trying.rs the inputs that `list` is run on.
+//! frames.rs has the layout of a frame; numbers.rs, blocks.rs and slips.rs the rules; answers.rs
+//! the line for each op and listing.rs the listing; known.rs the answers written down by hand;
+//! cases.rs, block_cases.rs and slip_cases.rs the cases, strict_cases.rs more of them for strict
+//! reading, random.rs what they draw from a seed; trying.rs the inputs that `list` is run on.
 //! Built by: rustc -O --edition 2021 -o target/oracle/oracle oracle/main.rs
 
 mod answers;
@@ -24,6 +24,8 @@ mod known;
 mod listing;
 mod numbers;
 mod random;
+mod slip_cases;
+mod slips;
 mod strict_cases;
 mod trying;
 

@@ -13,8 +13,8 @@
 //! against a program that has such loops and must not share a slip with it. Where the document
 //! says a thing twice, both are here and `read` and `form` stop the run if they part.
 
-/// The number of a refusal, from the table of refusals; 9 from document 02, #101. What refuses with
-/// this carries "its number and nothing else".
+/// The number of a refusal, from the table of refusals; 9 and 11 from document 02, #101 and #104.
+/// What refuses with this carries "its number and nothing else".
 pub type Refusal = u8;
 pub const END: Refusal = 1;
 pub const OVERFLOW: Refusal = 2;
@@ -25,6 +25,7 @@ pub const NOT_A_START: Refusal = 6;
 pub const TOO_LONG: Refusal = 7;
 pub const NO_START: Refusal = 8;
 pub const THREAD: Refusal = 9;
+pub const SLIP: Refusal = 11;
 
 /// Document 02, #108: "A number reader's refusal shall also give the place of the byte that decided
 /// it." Counted from the first of all the bytes, not from the start asked.

@@ -27,12 +27,16 @@ pub(crate) enum Coming {
     Whole(Frame),
 }
 
-fn wide(b: u8) -> u64 {
-    b as u64
+fn wide(b: u8) -> u32 {
+    b as u32
+}
+
+fn wider(word: u32) -> u64 {
+    word as u64
 }
 
 // The number whose four bytes stand at a place, low byte first.
-fn four(bytes: &[u8], at: usize) -> u64
+pub(crate) fn four(bytes: &[u8], at: usize) -> u32
     requires { ⌜ at + 4 ≤ length (now bytes) ⌝ }
 {
     wide(bytes[at])
@@ -45,7 +49,7 @@ fn four(bytes: &[u8], at: usize) -> u64
 pub(crate) fn eight(bytes: &[u8], at: usize) -> u64
     requires { ⌜ at + 8 ≤ length (now bytes) ⌝ }
 {
-    four(bytes, at) | four(bytes, at + 4) << 32
+    wider(four(bytes, at)) | wider(four(bytes, at + 4)) << 32
 }
 
 // The frame that begins with these bytes.

@@ -1,4 +1,5 @@
 // A line: put together of a name and numbers, and then laid down in a lent buffer.
+use crate::floats;
 use crate::numbers;
 use blocks::Cursor;
 use groups::Value;
@@ -64,6 +65,11 @@ impl Line {
             Value::Unsigned(v) => self.number(v),
             Value::Signed(v) => self.signed(v),
         }
+    }
+
+    // A float's bits.
+    pub(crate) fn bits(self, x: f32) -> Line {
+        self.number(floats::bits_of(x) as u64)
     }
 
     pub(crate) fn count(self, count: Count) -> Line {

@@ -1,4 +1,5 @@
 // Reads frames from standard input until it ends, and writes a line for each: what the desk answers to it.
+mod floats;
 mod frames;
 mod hex;
 mod lines;
@@ -6,6 +7,7 @@ mod listings;
 mod numbers;
 mod ops;
 mod said;
+mod settings;
 mod slices;
 mod writes;
 

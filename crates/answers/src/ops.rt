@@ -6,6 +6,7 @@ use crate::listings;
 use crate::numbers;
 use crate::numbers::Narrow;
 use crate::said;
+use crate::settings;
 use crate::slices;
 use crate::writes;
 use blocks::Cursor;
@@ -51,6 +52,8 @@ fn look(frame: Frame, bytes: &[u8]) -> Line {
         13 => step(bytes, place, Rule::Signed),
         14 => said::set_down(blocks::set_down(bytes, place)),
         17 => turn(a, frame.b),
+        19 => said::read_setting(slips::read_setting(bytes, place)),
+        21 => settings::lies_in_range(bytes),
         _ => said::unknown(),
     }
 }
@@ -66,7 +69,7 @@ pub(crate) fn answer(
 ) -> Count {
     let op = frame.op;
     match op {
-        5..=8 | 16 => writes::answer(frame, bytes, slots, out),
+        5..=8 | 16 | 20 => writes::answer(frame, bytes, slots, out),
         15 => slices::read_strict(frame.a, bytes, slots, out),
         18 => listings::list(bytes, text, out),
         _ => look(frame, bytes).lay(out, Count(0)),

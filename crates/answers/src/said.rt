@@ -5,6 +5,8 @@ use blocks::SetDown;
 use blocks::Step;
 use lists::ReadList;
 use sleb128::ReadI64;
+use slips::ReadSetting;
+use slips::Setting;
 use turns::Meaning;
 use turns::Turn;
 use uleb128::ReadU32;
@@ -100,4 +102,27 @@ pub(crate) fn read_list(answer: ReadList) -> Line {
         ReadList::Faulty(refusal, place) => decided(refusal, place),
         ReadList::Refused(refusal) => refused(refusal),
     }
+}
+
+fn setting(setting: Setting) -> Line {
+    match setting {
+        Setting::Nothing => says(b"nothing"),
+        Setting::Torque(torque) => says(b"torque").bits(torque),
+        Setting::Angle(angle) => says(b"angle").bits(angle),
+        Setting::Range(range) => says(b"range").bits(range.lowest).bits(range.highest),
+    }
+}
+
+pub(crate) fn read_setting(answer: ReadSetting) -> Line {
+    match answer {
+        ReadSetting::Setting(read, n) => setting(read).count(n),
+        ReadSetting::Refused(refusal) => refused(refusal),
+    }
+}
+
+pub(crate) fn yes_or_no(yes: bool) -> Line {
+    if yes {
+        return says(b"yes");
+    }
+    says(b"no")
 }

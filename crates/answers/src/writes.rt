@@ -6,6 +6,8 @@ use crate::hex;
 use crate::numbers;
 use crate::numbers::Narrow;
 use crate::said;
+use crate::settings;
+use crate::settings::Asked;
 use words::Count;
 use words::Place;
 use words::Written;
@@ -54,6 +56,21 @@ fn write_u32(a: u64, bytes: &mut [u8], place: Place) -> Wrote {
     }
 }
 
+// A setting of the kind, whose bits stand in front of the bytes, into the bytes behind them.
+fn write_setting(kind: u64, bytes: &mut [u8], place: Place) -> Wrote {
+    match settings::to_write(kind, bytes) {
+        Asked::Setting(setting, from) => {
+            let behind = from.0;
+            if bytes.len() < behind {
+                return Wrote::Unknown;
+            }
+            let answer = slips::write_setting(setting, &mut bytes[behind..], place);
+            Wrote::Answer(answer, from)
+        }
+        Asked::Unknown => Wrote::Unknown,
+    }
+}
+
 fn write(frame: Frame, bytes: &mut [u8], slots: &mut [u64]) -> Wrote {
     let op = frame.op;
     let a = frame.a;
@@ -66,6 +83,7 @@ fn write(frame: Frame, bytes: &mut [u8], slots: &mut [u64]) -> Wrote {
         7 => write_u32(a, bytes, place),
         8 => Wrote::Answer(sleb128::write_i64(numbers::signed(a), bytes, place), front),
         16 => write_list(b, bytes, slots, Place(a as usize)),
+        20 => write_setting(a, bytes, place),
         _ => Wrote::Unknown,
     }
 }

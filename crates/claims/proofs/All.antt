@@ -7,6 +7,7 @@ use Rattle.claims.proofs.OfBlocks.{blocks}
 use Rattle.claims.proofs.OfDamage.{damage}
 use Rattle.claims.proofs.OfLists.{lists}
 use Rattle.claims.proofs.OfTurns.{turns}
+use Rattle.claims.proofs.OfSlips.{slips}
 use Rattle.claims.proofs.OfListing.{listing}
 
 pub all : Claims
@@ -16,5 +17,6 @@ all = record {
   damage = damage;
   lists = lists;
   turns = turns;
+  slips = slips;
   listing = listing;
 }

@@ -15,11 +15,17 @@ mod ReaderSetDown
 mod Damage
 mod Text
 mod Program
+mod SlipFloats
+mod SlipGood
+mod SlipRows
+mod SlipTrips
 mod OfNumbers
 mod OfBlocks
 mod OfDamage
 mod OfLists
 mod OfTurns
+mod OfSlips
 mod OfListing
 mod Instances
+mod SlipInstances
 pub mod All

@@ -8,6 +8,7 @@ use Rattle.claims.specs.OfBlocks.{OfBlocks}
 use Rattle.claims.specs.OfDamage.{OfDamage}
 use Rattle.claims.specs.OfLists.{OfLists}
 use Rattle.claims.specs.OfTurns.{OfTurns}
+use Rattle.claims.specs.OfSlips.{OfSlips}
 use Rattle.claims.specs.OfListing.{OfListing}
 
 pub record Claims : Type 0 where
@@ -16,4 +17,5 @@ pub record Claims : Type 0 where
   pub damage : OfDamage
   pub lists : OfLists
   pub turns : OfTurns
+  pub slips : OfSlips
   pub listing : OfListing

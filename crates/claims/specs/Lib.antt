@@ -7,5 +7,6 @@ pub mod OfBlocks
 pub mod OfDamage
 pub mod OfLists
 pub mod OfTurns
+pub mod OfSlips
 pub mod OfListing
 pub mod Claims

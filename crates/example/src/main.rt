@@ -1,5 +1,5 @@
 // How the number code is used from a crate of one's own: writing, reading, what a turn means, stepping, set-down, strict
-// reading. Every answer is taken apart by a `match` and becomes a line of standard output. README.md shows parts of this file.
+// reading, and the settings of tools. Every answer is taken apart by a `match` and becomes a line of standard output. README.md shows parts of this file.
 use blocks::Cursor;
 use blocks::Rule;
 use blocks::SetDown;
@@ -9,6 +9,9 @@ use libc::STDOUT_FILENO;
 use lists::Numbers;
 use lists::ReadList;
 use sleb128::ReadI64;
+use slips::Range;
+use slips::ReadSetting;
+use slips::Setting;
 use turns::Meaning;
 use turns::Turn;
 use uleb128::ReadU64;
@@ -115,6 +118,38 @@ fn read_all(block: &[u8], numbers: &mut [u64]) {
     }
 }
 
+// Writes a setting's slip at a place.
+fn write_setting(setting: Setting, buffer: &mut [u8], place: Place) {
+    match slips::write_setting(setting, buffer, place) {
+        Written::Bytes(count) => say_count(count),
+        Written::Refused(refusal) => say_refused(refusal),
+    }
+}
+
+// Reads the setting at a place, for a tool that is set to this torque.
+fn read_setting(bytes: &[u8], place: Place, torque: f32) {
+    match slips::read_setting(bytes, place) {
+        ReadSetting::Setting(setting, _) => say_setting(setting, torque),
+        ReadSetting::Refused(refusal) => say_refused(refusal),
+    }
+}
+
+fn say_setting(setting: Setting, torque: f32) {
+    match setting {
+        Setting::Nothing => line(b"nothing\n"),
+        Setting::Torque(_) => line(b"torque\n"),
+        Setting::Angle(_) => line(b"angle\n"),
+        Setting::Range(range) => say_whether(slips::lies_in_range(torque, range)),
+    }
+}
+
+fn say_whether(in_range: bool) {
+    if in_range {
+        return line(b"in range\n");
+    }
+    line(b"out of range\n");
+}
+
 fn line(text: &[u8]) {
     io::write_all(STDOUT_FILENO, text);
 }
@@ -196,8 +231,23 @@ fn show_block(block: &[u8]) {
     read_all(block, &mut numbers);
 }
 
+fn show_settings() {
+    let mut buffer = [0u8; 10];
+    let range = Range {
+        lowest: 20.0,
+        highest: 40.0,
+    };
+    write_setting(Setting::Range(range), &mut buffer, Place(0));
+    write_setting(Setting::Torque(-1.0), &mut buffer, Place(0));
+    write_setting(Setting::Angle(-90.0), &mut buffer, Place(9));
+    read_setting(&buffer, Place(0), 40.0);
+    read_setting(&buffer, Place(0), 40.5);
+    read_setting(&buffer, Place(9), 40.0);
+}
+
 fn main() {
     show_numbers();
     show_block(b"\x05\x80\x00\x80\x01\x83");
     show_block(b"\x05\x80\x01");
+    show_settings();
 }

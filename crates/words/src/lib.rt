@@ -19,6 +19,7 @@ pub enum Refusal {
     TooLong,
     NoStart,
     Thread,
+    Slip,
 }
 
 // What a writer answers: the count of bytes that it laid down, or why it laid none.
@@ -41,6 +42,7 @@ pub fn number(refusal: Refusal) -> u8
         Refusal::TooLong => 7,
         Refusal::NoStart => 8,
         Refusal::Thread => 9,
+        Refusal::Slip => 11,
     }
 }
 

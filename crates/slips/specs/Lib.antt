@@ -1,0 +1,4 @@
+pub mod Good
+pub mod Slip
+pub mod Promise
+pub mod Inner
