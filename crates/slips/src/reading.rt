@@ -1,4 +1,4 @@
-// Reading a slip.
+// Reading a slip: its kind, whether the body is there, and then whether its bits are good.
 use crate::Range;
 use crate::ReadSetting;
 use crate::Setting;
@@ -36,6 +36,7 @@ fn word_at(bytes: &[u8], at: usize) -> u32
     low | (high << 16)
 }
 
+// The torque of these bits, if it is good; else 11.
 fn read_torque(bits: u32) -> ReadSetting
     ensures { λ r. ⌜ Judges 1 (torque ∷ []) (bits ∷ []) r ⌝ }
 {
@@ -46,6 +47,7 @@ fn read_torque(bits: u32) -> ReadSetting
     ReadSetting::Refused(Refusal::Slip)
 }
 
+// The angle of these bits, if it is good; else 11.
 fn read_angle(bits: u32) -> ReadSetting
     ensures { λ r. ⌜ Judges 2 (angle ∷ []) (bits ∷ []) r ⌝ }
 {
@@ -56,6 +58,7 @@ fn read_angle(bits: u32) -> ReadSetting
     ReadSetting::Refused(Refusal::Slip)
 }
 
+// The range of these bits, if it is good; else 11.
 fn read_range(low: u32, high: u32) -> ReadSetting
     ensures { λ r. ⌜ Judges 3 (torque ∷ torque ∷ []) (low ∷ high ∷ []) r ⌝ }
 {

@@ -1,4 +1,4 @@
-// Writing a slip.
+// Writing a slip: whether the setting is good, then whether there is room, and only then a byte.
 use crate::Range;
 use crate::Setting;
 use crate::good::good_angle;
@@ -95,6 +95,7 @@ fn lay_two(kind: u8, low: u32, high: u32, buffer: &mut [u8], place: Place) -> Wr
     Written::Refused(Refusal::NoRoom)
 }
 
+// Writes a torque, if it is good; else 11.
 fn write_torque(torque: f32, buffer: &mut [u8], place: Place) -> Written
     ensures { λ r. ⌜ WritesSetting (Torque torque) (now (buffer .entry)) (place .0) r (now (buffer .exit)) ⌝ }
 {
@@ -105,6 +106,7 @@ fn write_torque(torque: f32, buffer: &mut [u8], place: Place) -> Written
     Written::Refused(Refusal::Slip)
 }
 
+// Writes an angle, if it is good; else 11.
 fn write_angle(angle: f32, buffer: &mut [u8], place: Place) -> Written
     ensures { λ r. ⌜ WritesSetting (Angle angle) (now (buffer .entry)) (place .0) r (now (buffer .exit)) ⌝ }
 {
@@ -115,6 +117,7 @@ fn write_angle(angle: f32, buffer: &mut [u8], place: Place) -> Written
     Written::Refused(Refusal::Slip)
 }
 
+// Writes a range, if it is good; else 11.
 fn write_range(range: Range, buffer: &mut [u8], place: Place) -> Written
     ensures { λ r. ⌜ WritesSetting (Ranged range) (now (buffer .entry)) (place .0) r (now (buffer .exit)) ⌝ }
 {
