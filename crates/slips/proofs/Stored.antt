@@ -5,9 +5,10 @@
 --   one-laid, two-laid       so a kind and one word, and two
 --   good-written             a setting that is good is written by its form,
 --   bad-refused              and any other is refused by 11
+--   word-laid, word-refused  one of one word, if it is good, and if it isn't; `word-written`: so it is written as a setting
 --   range-means              what a range means, from its bits
 use Prim.Native.Nat.{ℕ, suc, _+_, _/_, _%_, _≤_, _<_}
-use mathlib.Core.Bool.{true, false}
+use mathlib.Core.Bool.{Bool, true, false}
 use mathlib.Core.List.{List, [], _∷_}
 use mathlib.Core.Path.{_≡_, refl, sym, _∙_}
 use native.Mathlib.Nat.{mod-eq-of-lt}
@@ -22,13 +23,14 @@ use Rattle.words.specs.declared.Refusal.the-variants as Why
 use Rattle.words.specs.declared.Written.{Written}
 use Rattle.words.specs.declared.Written.the-variants as W
 use Rattle.words.proofs.Lays.{fits-there, sets-append}
-use Rattle.slips.specs.Good.{good}
+use Rattle.slips.specs.Good.{Measure, goodWord, good}
 use Rattle.slips.specs.Slip.{measures, spread, form}
 use Rattle.slips.specs.Promise.{meansSetting, WritesSetting}
-use Rattle.slips.specs.Inner.{LaysWord}
+use Rattle.slips.specs.Inner.{LaysWord, WritesWord}
 use Rattle.slips.specs.declared.Range.{Range}
 use Rattle.slips.specs.declared.Setting.{Setting}
 use Rattle.slips.specs.declared.Setting.the-variants as S
+use Rattle.slips.proofs.GoodRange.{alone}
 
 pub word-stored : (s : List ℕ) (at w : ℕ) → w < 4294967296
     → LaysWord w s at (set (set (set (set s at (w % 256)) (at + 1) (w / 256 % 256)) (at + 2) (w / 256 / 256 % 256)) (at + 3) (w / 256 / 256 / 256))
@@ -65,6 +67,21 @@ module _ (v : Setting) (s : List ℕ) (at : ℕ) {k : ℕ} {ws : List ℕ} (e : 
 
   pub bad-refused : good (measures k) ws ≡ false → WritesSetting v s at (W.Refused Why.Slip) s
   bad-refused g = let t = lt-ltb k 4 known in record { answer = rw (e, t, g); leaves = rw (e, t, g) }
+
+module _ (k w : ℕ) {good : Bool} (s : List ℕ) (at : ℕ) where
+  pub word-laid : {r : Written} {out : List ℕ} → good ≡ true → Lays (form (k, w ∷ [])) s at r out → WritesWord k w good s at r out
+  word-laid e l = record { answer = rw e (l .answer); leaves = rw e (l .leaves) }
+
+  pub word-refused : good ≡ false → WritesWord k w good s at (W.Refused Why.Slip) s
+  word-refused e = record { answer = rw e; leaves = rw e }
+
+pub word-written : (v : Setting) (s : List ℕ) (at : ℕ) {k bits w : ℕ} (m : Measure) {tested : Bool} {r : Written} {out : List ℕ}
+    → meansSetting v ≡ (k, w ∷ []) → k < 4 → measures k ≡ m ∷ [] → bits ≡ w → tested ≡ goodWord m bits → WritesWord k bits tested s at r out
+    → WritesSetting v s at r out
+word-written v s at {k} {bits} m means known measured b t p =
+    let g = t ∙ alone m bits in
+    let n = lt-ltb k 4 known in
+    record { answer = p .answer ∙ rw (means, n, measured, ← b, g); leaves = p .leaves ∙ rw (means, n, measured, ← b, g) }
 
 pub range-means : (range : Range) {low high : ℕ} → low ≡ toBits binary32 (range .lowest) → high ≡ toBits binary32 (range .highest)
     → meansSetting (S.Range range) ≡ (3, low ∷ high ∷ [])

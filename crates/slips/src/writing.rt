@@ -16,9 +16,9 @@ ghost use lib.Ieee.{binary32, toBits};
 ghost use lib.ListN.{length};
 ghost use Rattle.words.specs.Lays.{Lays};
 ghost use Rattle.slips.specs.Slip.{form};
-ghost use Rattle.slips.specs.Inner.{LaysWord};
+ghost use Rattle.slips.specs.Inner.{LaysWord, WritesWord};
 ghost use Rattle.slips.specs.Promise.{WritesSetting};
-ghost use Rattle.slips.specs.declared.Setting.the-variants.{Torque, Angle, Range as Ranged};
+ghost use Rattle.slips.specs.declared.Setting.the-variants.{Range as Ranged};
 
 // The bits of a float; those of one not-a-number stand for all.
 fn bits_of(x: f32) -> u32
@@ -95,24 +95,12 @@ fn lay_two(kind: u8, low: u32, high: u32, buffer: &mut [u8], place: Place) -> Wr
     Written::Refused(Refusal::NoRoom)
 }
 
-// Writes a torque, if it is good; else 11.
-fn write_torque(torque: f32, buffer: &mut [u8], place: Place) -> Written
-    ensures { λ r. ⌜ WritesSetting (Torque torque) (now (buffer .entry)) (place .0) r (now (buffer .exit)) ⌝ }
+// Writes a setting of one word, if it is good; else 11.
+fn write_word(kind: u8, bits: u32, good: bool, buffer: &mut [u8], place: Place) -> Written
+    ensures { λ r. ⌜ WritesWord kind bits good (now (buffer .entry)) (place .0) r (now (buffer .exit)) ⌝ }
 {
-    let bits = bits_of(torque);
-    if good_torque(bits) {
-        return lay_one(1, bits, buffer, place);
-    }
-    Written::Refused(Refusal::Slip)
-}
-
-// Writes an angle, if it is good; else 11.
-fn write_angle(angle: f32, buffer: &mut [u8], place: Place) -> Written
-    ensures { λ r. ⌜ WritesSetting (Angle angle) (now (buffer .entry)) (place .0) r (now (buffer .exit)) ⌝ }
-{
-    let bits = bits_of(angle);
-    if good_angle(bits) {
-        return lay_one(2, bits, buffer, place);
+    if good {
+        return lay_one(kind, bits, buffer, place);
     }
     Written::Refused(Refusal::Slip)
 }
@@ -135,8 +123,16 @@ pub fn write_setting(setting: Setting, buffer: &mut [u8], place: Place) -> Writt
 {
     match setting {
         Setting::Nothing => lay_nothing(buffer, place),
-        Setting::Torque(torque) => write_torque(torque, buffer, place),
-        Setting::Angle(angle) => write_angle(angle, buffer, place),
+        Setting::Torque(torque) => {
+            let bits = bits_of(torque);
+            let good = good_torque(bits);
+            write_word(1, bits, good, buffer, place)
+        }
+        Setting::Angle(angle) => {
+            let bits = bits_of(angle);
+            let good = good_angle(bits);
+            write_word(2, bits, good, buffer, place)
+        }
         Setting::Range(range) => write_range(range, buffer, place),
     }
 }
