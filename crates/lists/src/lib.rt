@@ -6,6 +6,7 @@ mod writing;
 pub use reading::read_strict;
 use words::Place;
 use words::Refusal;
+pub use writing::LIST_LIMIT;
 pub use writing::write_list;
 
 // A count of numbers: neither a place nor a count of bytes.

@@ -20,7 +20,7 @@ ghost use Rattle.lists.specs.Lists.{forms, listLimit};
 ghost use Rattle.lists.specs.Promise.{WritesList};
 
 // The most numbers of a list.
-const LIST_LIMIT: usize = 16384;
+pub const LIST_LIMIT: usize = 16384;
 
 // How many bytes the numbers' forms take in all.
 fn total_length(numbers: &[u64]) -> Count

@@ -20,6 +20,7 @@ pub enum Refusal {
     NoStart,
     Thread,
     Slip,
+    Tree,
 }
 
 // What a writer answers: the count of bytes that it laid down, or why it laid none.
@@ -43,6 +44,7 @@ pub fn number(refusal: Refusal) -> u8
         Refusal::NoStart => 8,
         Refusal::Thread => 9,
         Refusal::Slip => 11,
+        Refusal::Tree => 13,
     }
 }
 
