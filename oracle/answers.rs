@@ -7,6 +7,7 @@ use crate::blocks::{set_down, step, strict, write_list, Step, StrictRefusal};
 use crate::frames::{hex, Frame, Item};
 use crate::listing::listing;
 use crate::numbers::{length, power, read, write, Refusal, RefusalAt, Rule, THREAD};
+use crate::phrases::copy_leaves;
 use crate::slips::{bits_of, body_length, lies_in_range, read_slip, write_slip, Setting};
 use std::cmp::Ordering;
 use Rule::*;
@@ -37,6 +38,7 @@ pub fn answer(item: &Item) -> String {
         19 => slip_line(frame),
         20 => slip_write_line(frame),
         21 => question_line(frame),
+        22 => leaves_line(frame),
         _ => UNKNOWN.to_string(),
     }
 }
@@ -100,31 +102,44 @@ fn set_down_line(frame: &Frame) -> String {
 pub const MOST_OF_SLICE: u64 = 65_536;
 const BEFORE: u64 = 7777777777777777777;
 
-fn strict_line(frame: &Frame) -> String {
+/// What is said with an answer slice of a numbers, then the whole slice.
+fn slice_line(frame: &Frame, said: impl Fn(&mut [u64]) -> String) -> String {
     if frame.a > MOST_OF_SLICE {
         return UNKNOWN.to_string();
     }
     let mut slice = vec![BEFORE; frame.a as usize];
-    let mut line = match strict(frame.bytes, &mut slice) {
-        Ok(count) => format!("count {count}"),
-        Err(StrictRefusal::Fault(fault)) => refused_at(fault),
-        Err(StrictRefusal::Other(refusal)) => format!("refused {refusal}"),
-    };
+    let mut line = said(&mut slice);
     for number in slice {
         line += &format!(" {number}");
     }
     line
 }
 
-fn list_line(frame: &Frame) -> String {
+fn strict_line(frame: &Frame) -> String {
+    slice_line(frame, |slice| match strict(frame.bytes, slice) {
+        Ok(count) => format!("count {count}"),
+        Err(StrictRefusal::Fault(fault)) => refused_at(fault),
+        Err(StrictRefusal::Other(refusal)) => format!("refused {refusal}"),
+    })
+}
+
+/// The frame's b numbers, 8 bytes to each, and the bytes behind them, if there are so many.
+fn list_of<'a>(frame: &Frame<'a>) -> Option<(Vec<u64>, &'a [u8])> {
     if 8 * frame.b as u128 > frame.bytes.len() as u128 {
-        return UNKNOWN.to_string();
+        return None;
     }
-    let (numbers, rest) = frame.bytes.split_at(8 * frame.b as usize);
-    let list: Vec<u64> = numbers
+    let (numbers, behind) = frame.bytes.split_at(8 * frame.b as usize);
+    let list = numbers
         .chunks(8)
         .map(|eight| u64::from_le_bytes(eight.try_into().unwrap()))
         .collect();
+    Some((list, behind))
+}
+
+fn list_line(frame: &Frame) -> String {
+    let Some((list, rest)) = list_of(frame) else {
+        return UNKNOWN.to_string();
+    };
     let mut buffer = rest.to_vec();
     let written = write_list(&list, &mut buffer, frame.a);
     format!("{} {}", count_or_refused(written), hex(&buffer))
@@ -199,6 +214,14 @@ fn question_line(frame: &Frame) -> String {
     let bits = bits_of(frame.bytes);
     let lies = lies_in_range(bits[0], bits[1], bits[2]);
     (if lies { "yes" } else { "no" }).to_string()
+}
+
+/// Bytes behind the list are not looked at.
+fn leaves_line(frame: &Frame) -> String {
+    let Some((list, _)) = list_of(frame) else {
+        return UNKNOWN.to_string();
+    };
+    slice_line(frame, |slice| count_or_refused(copy_leaves(&list, slice)))
 }
 
 /// The number that a frame's a stands for, if the width has it: signed in two's complement.

@@ -15,7 +15,7 @@
 //! reading does not give the list back.
 
 use crate::numbers::{
-    at, form, read, store, Refusal, RefusalAt, Rule, END, NOT_A_START, NOT_SHORTEST, NO_ROOM,
+    at, fill, form, read, store, Refusal, RefusalAt, Rule, END, NOT_A_START, NOT_SHORTEST,
     NO_START, OVERFLOW, PLACE, TOO_LONG,
 };
 
@@ -143,11 +143,7 @@ pub fn strict(block: &[u8], slice: &mut [u64]) -> Result<usize, StrictRefusal> {
         check_first(block, fault);
     }
     let numbers = said.map_err(StrictRefusal::Fault)?;
-    if numbers.len() > slice.len() {
-        return Err(StrictRefusal::Other(NO_ROOM));
-    }
-    slice[..numbers.len()].copy_from_slice(&numbers);
-    Ok(numbers.len())
+    fill(&numbers, slice).map_err(StrictRefusal::Other)
 }
 
 /// All numbers of a block, or its first fault. "Strict reading passes it on for 2 and 3; for a tail

@@ -1,11 +1,12 @@
 //! Frames: what a case is, read and written.
 //!
-//!   Frame     one case: op, a, b and its bytes
-//!   Item      what the input has next: a frame, or one cut short
-//!   frames    the items of an input
-//!   put       the bytes of a frame, added to an input
-//!   put_list  the same for list writing: the numbers, then the buffer
-//!   list      a frame as a line to read
+//!   Frame         one case: op, a, b and its bytes
+//!   Item          what the input has next: a frame, or one cut short
+//!   frames        the items of an input
+//!   put           the bytes of a frame, added to an input
+//!   put_numbers   the same where they begin with a list
+//!   put_list      the same for list writing: the numbers, then the buffer
+//!   list          a frame as a line to read
 
 /// The most bytes that a frame may have behind its header.
 pub const MOST_BYTES: u32 = 300_000;
@@ -61,11 +62,16 @@ pub fn put(input: &mut Vec<u8>, op: u8, a: u64, b: u64, bytes: &[u8]) {
     input.extend(bytes);
 }
 
-/// Adds a frame that asks to write a list at a place: 8 bytes to a number, the low byte first.
-pub fn put_list(input: &mut Vec<u8>, place: u64, list: &[u64], buffer: &[u8]) {
+/// Adds a frame with a list of b numbers, 8 bytes to each, the low byte first, and bytes behind it.
+pub fn put_numbers(input: &mut Vec<u8>, op: u8, a: u64, list: &[u64], behind: &[u8]) {
     let mut bytes: Vec<u8> = list.iter().flat_map(|v| v.to_le_bytes()).collect();
-    bytes.extend(buffer);
-    put(input, 16, place, list.len() as u64, &bytes);
+    bytes.extend(behind);
+    put(input, op, a, list.len() as u64, &bytes);
+}
+
+/// Adds a frame that asks to write a list at a place.
+pub fn put_list(input: &mut Vec<u8>, place: u64, list: &[u64], buffer: &[u8]) {
+    put_numbers(input, 16, place, list, buffer);
 }
 
 /// Bytes in lower-case hex, `-` if there are none.

@@ -1,22 +1,24 @@
-//! Answers written down by hand from document 01, from document 02 (#101, #104, #105, #108) and
-//! from the examples of DWARF 5, so that no expected output rests on this program's word alone.
+//! Answers written down by hand from document 01, from document 02 (#101, #104, #105, #108, #110)
+//! and from the examples of DWARF 5, so that no expected output rests on this program's word alone.
 //!
 //!   READ, WRITE, LENGTH   the cases for numbers, each with its answer line
 //!   BLOCK, LIST, TURN     those for blocks, lists and turns
 //!   READ_PLACE, BLOCK_PLACE, LONG_PLACE   those for the byte that decided a refusal or a gap
 //!   STRICT                those for strict reading that may be done in parts
 //!   SLIP, SLIP_WRITE, QUESTION, SLIP_FRAME   those for setting slips
+//!   PHRASE, PHRASE_FRAME, LIMIT_PHRASE, LONG_PHRASE   those for phrases inside phrases
 //!   put_limits            those with a block or list as long as it may be, or longer
 //!   put_known             all of these as frames
 //!   put_strict            those of STRICT as frames
 //!   put_slips             those for setting slips as frames
+//!   put_phrases           those for phrases inside phrases as frames
 //!   put_long              those of the large run alone
 //!   LISTING               the named inputs for the listing, each with its text
 //!   TEXT                  other blocks, each with the text of its listing
 //!   check                 whether this program gives every one of these answers
 
 use crate::answers::answer;
-use crate::frames::{frames, list, put, put_list};
+use crate::frames::{frames, list, put, put_list, put_numbers};
 use crate::listing;
 use crate::numbers::GROWTH;
 use std::fmt::Write as _;
@@ -46,6 +48,11 @@ type SlipWrite = (u64, u64, &'static str, &'static str, &'static str);
 type Question = (u32, u32, u32, &'static str);
 /// (op, a, b, bytes in hex, answer)
 type AnyFrame = (u8, u64, u64, &'static str, &'static str);
+
+/// (size of the slice, numbers, answer); a `_` of the answer is a number as it was before
+type Phrase = (u64, &'static [u64], &'static str);
+/// (size of the slice, so many times these numbers, so many times this text of the answer)
+type LongPhrase = (u64, &'static [(usize, &'static [u64])], &'static [Times]);
 
 /// The 17 bytes of document 01's listing, and the same with the two bytes at 3 mended.
 const DOCUMENT: &str = "00 80 01 80 00 ff ff ff ff ff ff ff ff ff 02 05 83";
@@ -743,6 +750,199 @@ const SLIP_FRAME: &[AnyFrame] = &[
     (21, 18446744073709551615, 18446744073709551615, "00 00 80 3f 00 00 80 3f 00 00 80 3f", "yes"),
 ];
 
+/// Document 02, #110.
+#[rustfmt::skip]
+const PHRASE: &[Phrase] = &[
+    // "An even n is a leaf, sentence n/2": up to 2^64 - 2, with each power of two that a width ends at.
+    (1, &[0], "count 1 0"),
+    (1, &[2], "count 1 1"),
+    (1, &[14], "count 1 7"),
+    (1, &[65536], "count 1 32768"),
+    (1, &[131072], "count 1 65536"),
+    (1, &[4294967294], "count 1 2147483647"),
+    (1, &[4294967296], "count 1 2147483648"),
+    (1, &[8589934592], "count 1 4294967296"),
+    (1, &[9223372036854775806], "count 1 4611686018427387903"),
+    (1, &[9223372036854775808], "count 1 4611686018427387904"),
+    (1, &[18446744073709551614], "count 1 9223372036854775807"),
+    // "An odd n is a branch of the next (n - 1)/2 items."
+    (1, &[3, 10], "count 1 5"),
+    (2, &[5, 10, 14], "count 2 5 7"),
+    (2, &[5, 14, 10], "count 2 7 5"),
+    (3, &[7, 10, 14, 2], "count 3 5 7 1"),
+    (4, &[9, 0, 2, 4, 6], "count 4 0 1 2 3"),
+    (2, &[5, 18446744073709551614, 0], "count 2 9223372036854775807 0"),
+    // "Each again a leaf or a branch", in each place of a branch.
+    (1, &[3, 3, 10], "count 1 5"),
+    (3, &[5, 5, 10, 14, 2], "count 3 5 7 1"),
+    (3, &[5, 2, 5, 10, 14], "count 3 1 5 7"),
+    (4, &[7, 2, 5, 10, 14, 4], "count 4 1 5 7 2"),
+    (4, &[5, 5, 2, 4, 5, 6, 8], "count 4 1 2 3 4"),
+    (2, &[5, 3, 2, 3, 4], "count 2 1 2"),
+    (3, &[5, 3, 3, 2, 5, 4, 6], "count 3 1 2 3"),
+    // "An empty branch is good", alone, in others, before and behind a leaf.
+    (0, &[1], "count 0"),
+    (2, &[1], "count 0 _ _"),
+    (0, &[3, 1], "count 0"),
+    (0, &[5, 1, 1], "count 0"),
+    (0, &[7, 1, 3, 1, 1], "count 0"),
+    (1, &[5, 1, 10], "count 1 5"),
+    (1, &[5, 10, 1], "count 1 5"),
+    (2, &[7, 10, 1, 14], "count 2 5 7"),
+    (1, &[5, 1, 3, 10], "count 1 5"),
+    // "13, Tree, for all faults of shape or depth, an empty list included."
+    (0, &[], "refused 13"),
+    (2, &[], "refused 13 _ _"),
+    // "Exactly one item": a number is left behind a leaf, behind an empty branch, behind another.
+    (2, &[0, 0], "refused 13 _ _"),
+    (2, &[10, 14], "refused 13 _ _"),
+    (1, &[10, 1], "refused 13 _"),
+    (1, &[10, 3], "refused 13 _"),
+    (2, &[10, 3, 14], "refused 13 _ _"),
+    (1, &[1, 10], "refused 13 _"),
+    (0, &[1, 1], "refused 13"),
+    (2, &[3, 10, 14], "refused 13 _ _"),
+    (1, &[3, 10, 1], "refused 13 _"),
+    (1, &[3, 1, 10], "refused 13 _"),
+    (3, &[5, 10, 14, 2], "refused 13 _ _ _"),
+    (3, &[3, 5, 10, 14, 2], "refused 13 _ _ _"),
+    (2, &[3, 10, 3, 14], "refused 13 _ _"),
+    // A list that ends too early: in the first branch, in the last, in one whose last item is whole.
+    (0, &[3], "refused 13"),
+    (1, &[3], "refused 13 _"),
+    (1, &[5, 10], "refused 13 _"),
+    (1, &[5, 1], "refused 13 _"),
+    (2, &[7, 10, 14], "refused 13 _ _"),
+    (1, &[3, 3], "refused 13 _"),
+    (1, &[5, 10, 3], "refused 13 _"),
+    (2, &[5, 5, 10, 14], "refused 13 _ _"),
+    (2, &[5, 10, 5, 14], "refused 13 _ _"),
+    (2, &[7, 10, 3, 14], "refused 13 _ _"),
+    // "The eighth is good, the ninth is not": around a leaf, which is no level, and as an empty one.
+    (1, &[3, 3, 3, 3, 3, 3, 3, 10], "count 1 5"),
+    (1, &[3, 3, 3, 3, 3, 3, 3, 3, 10], "count 1 5"),
+    (1, &[3, 3, 3, 3, 3, 3, 3, 3, 3, 10], "refused 13 _"),
+    (1, &[3, 3, 3, 3, 3, 3, 3, 3, 3, 3, 10], "refused 13 _"),
+    (1, &[3, 3, 3, 3, 3, 3, 1], "count 0 _"),
+    (1, &[3, 3, 3, 3, 3, 3, 3, 1], "count 0 _"),
+    (1, &[3, 3, 3, 3, 3, 3, 3, 3, 1], "refused 13 _"),
+    (1, &[3, 3, 3, 3, 3, 3, 3, 3, 3, 1], "refused 13 _"),
+    // In the eighth: two leaves; an empty branch, which is a ninth, before a leaf and behind it.
+    (2, &[3, 3, 3, 3, 3, 3, 3, 5, 10, 14], "count 2 5 7"),
+    (1, &[3, 3, 3, 3, 3, 3, 3, 5, 1, 10], "refused 13 _"),
+    (1, &[3, 3, 3, 3, 3, 3, 3, 5, 10, 1], "refused 13 _"),
+    // In the seventh, beside the eighth: an empty branch is an eighth too.
+    (1, &[3, 3, 3, 3, 3, 3, 5, 3, 10, 1], "count 1 5"),
+    (1, &[3, 3, 3, 3, 3, 3, 5, 1, 3, 10], "count 1 5"),
+    // Two nests in one branch, each with as many as may be, or one with a ninth.
+    (2, &[5, 3, 3, 3, 3, 3, 3, 3, 10, 3, 3, 3, 3, 3, 3, 3, 14], "count 2 5 7"),
+    (2, &[5, 3, 3, 3, 3, 3, 3, 3, 3, 10, 3, 3, 3, 3, 3, 3, 3, 14], "refused 13 _ _"),
+    (2, &[5, 3, 3, 3, 3, 3, 3, 3, 10, 3, 3, 3, 3, 3, 3, 3, 3, 14], "refused 13 _ _"),
+    (1, &[5, 3, 3, 3, 3, 3, 3, 3, 10, 3, 3, 3, 3, 3, 3, 3, 1], "refused 13 _"),
+    // Behind a nest: a leaf and branches of the first.
+    (2, &[5, 3, 3, 3, 3, 3, 3, 3, 10, 14], "count 2 5 7"),
+    (3, &[9, 3, 3, 3, 3, 3, 3, 3, 10, 1, 14, 3, 2], "count 3 5 7 1"),
+    // 2^64 - 1 says 2^63 - 1 items: alone, with some of them, inside others, and again.
+    (0, &[18446744073709551615], "refused 13"),
+    (1, &[18446744073709551615], "refused 13 _"),
+    (1, &[18446744073709551615, 10], "refused 13 _"),
+    (2, &[18446744073709551615, 10, 14], "refused 13 _ _"),
+    (1, &[3, 18446744073709551615], "refused 13 _"),
+    (2, &[5, 10, 18446744073709551615], "refused 13 _ _"),
+    (1, &[5, 18446744073709551615, 10], "refused 13 _"),
+    (1, &[10, 18446744073709551615], "refused 13 _"),
+    (1, &[18446744073709551615, 18446744073709551615], "refused 13 _"),
+    // 2^63 - 1 twice and 4 are 2^64 + 2, and three numbers settle three items.
+    (1, &[18446744073709551615, 18446744073709551615, 9], "refused 13 _"),
+    // Counts that are 0 or 1 if they or their numbers are cut: 256, 257, 2^15 + 1, 2^16, 2^16 + 1,
+    // 2^31 + 1, 2^32, 2^32 + 1, 2^62 + 1.
+    (0, &[513], "refused 13"),
+    (1, &[515, 10], "refused 13 _"),
+    (1, &[65539, 10], "refused 13 _"),
+    (0, &[131073], "refused 13"),
+    (1, &[131075, 10], "refused 13 _"),
+    (1, &[4294967299, 10], "refused 13 _"),
+    (0, &[8589934593], "refused 13"),
+    (1, &[8589934595, 10], "refused 13 _"),
+    (1, &[9223372036854775811, 10], "refused 13 _"),
+    // "Then 5": one short, none, and with room for the leaves alone. More than enough, the rest kept.
+    (1, &[5, 10, 14], "refused 5 _"),
+    (0, &[5, 10, 14], "refused 5"),
+    (0, &[0], "refused 5"),
+    (0, &[3, 10], "refused 5"),
+    (3, &[5, 5, 2, 4, 5, 6, 8], "refused 5 _ _ _"),
+    (1, &[3, 3, 3, 3, 3, 3, 3, 5, 10, 14], "refused 5 _"),
+    (2, &[9, 1, 3, 10, 1, 3, 14], "count 2 5 7"),
+    (3, &[5, 10, 14], "count 2 5 7 _"),
+    (5, &[5, 10, 14], "count 2 5 7 _ _ _"),
+    (4, &[10], "count 1 5 _ _ _"),
+    // 13 before 5.
+    (0, &[10, 14], "refused 13"),
+    (0, &[5, 10], "refused 13"),
+    (1, &[5, 10, 14, 2], "refused 13 _"),
+    (1, &[7, 10, 14], "refused 13 _"),
+    (0, &[3, 3, 3, 3, 3, 3, 3, 3, 3, 10], "refused 13"),
+];
+
+/// A slice above the cap, also one that would be 1 if it were cut; a list that the frame doesn't
+/// hold, also where 8 times its numbers is 0 or 8 if it is cut to 64 bits; bytes behind the list,
+/// which would make it good, or bad; the low byte first.
+#[rustfmt::skip]
+const PHRASE_FRAME: &[AnyFrame] = &[
+    (22, 65537, 1, "0a 00 00 00 00 00 00 00", "unknown"),
+    (22, 65537, 0, "", "unknown"),
+    (22, 4294967297, 1, "0a 00 00 00 00 00 00 00", "unknown"),
+    (22, 18446744073709551615, 1, "0a 00 00 00 00 00 00 00", "unknown"),
+    (22, 1, 1, "", "unknown"),
+    (22, 1, 1, "0a 00 00 00 00 00 00", "unknown"),
+    (22, 1, 2, "03 00 00 00 00 00 00 00 0a 00 00 00 00 00 00", "unknown"),
+    (22, 1, 2305843009213693952, "", "unknown"),
+    (22, 1, 2305843009213693953, "0a 00 00 00 00 00 00 00", "unknown"),
+    (22, 1, 18446744073709551615, "0a 00 00 00 00 00 00 00", "unknown"),
+    (22, 65537, 18446744073709551615, "", "unknown"),
+    (22, 1, 1, "0a 00 00 00 00 00 00 00 ff", "count 1 5"),
+    (22, 1, 1, "0a 00 00 00 00 00 00 00 0a 00 00 00 00 00 00 00", "count 1 5"),
+    (22, 0, 1, "03 00 00 00 00 00 00 00 0a 00 00 00 00 00 00 00", "refused 13"),
+    (22, 0, 0, "01 00 00 00 00 00 00 00", "refused 13"),
+    (22, 0, 0, "", "refused 13"),
+    (22, 1, 1, "04 03 02 01 00 00 00 00", "count 1 8454530"),
+    (22, 1, 1, "02 00 00 00 00 00 00 80", "count 1 4611686018427387905"),
+];
+
+/// The most numbers, in one branch; one more, of which an item is missing, and no room either.
+#[rustfmt::skip]
+const LIMIT_PHRASE: &[LongPhrase] = &[
+    (16383, &[(1, &[32767]), (16383, &[10])], &[(1, "count 16383"), (16383, " 5")]),
+    (1, &[(1, &[32771]), (16384, &[10])], &[(1, "refused 7"), (1, LEFT)]),
+];
+
+/// Those of the large run alone.
+#[rustfmt::skip]
+const LONG_PHRASE: &[LongPhrase] = &[
+    // The most numbers: one room short; eight branches deep, and nine; empty branches alone.
+    (16382, &[(1, &[32767]), (16383, &[10])], &[(1, "refused 5"), (16382, LEFT)]),
+    (16384, &[(1, &[32767]), (16383, &[10])], &[(1, "count 16383"), (16383, " 5"), (1, LEFT)]),
+    (16376, &[(7, &[3]), (1, &[32753]), (16376, &[14])], &[(1, "count 16376"), (16376, " 7")]),
+    (2, &[(8, &[3]), (1, &[32751]), (16375, &[14])], &[(1, "refused 13"), (2, LEFT)]),
+    (1, &[(1, &[32767]), (16383, &[1])], &[(1, "count 0"), (1, LEFT)]),
+    (8192, &[(1, &[32767]), (8191, &[1, 10]), (1, &[14])], &[(1, "count 8192"), (8191, " 5"), (1, " 7")]),
+    // An item too few, one too many, many too many, and a last number that says one item more.
+    (1, &[(1, &[32769]), (16383, &[10])], &[(1, "refused 13"), (1, LEFT)]),
+    (1, &[(1, &[32765]), (16383, &[10])], &[(1, "refused 13"), (1, LEFT)]),
+    (1, &[(16384, &[10])], &[(1, "refused 13"), (1, LEFT)]),
+    (1, &[(1, &[32767]), (16382, &[10]), (1, &[3])], &[(1, "refused 13"), (1, LEFT)]),
+    // One number more: one item, with room, without, and with no leaves; many items. Then many more.
+    (16384, &[(1, &[32769]), (16384, &[10])], &[(1, "refused 7"), (16384, LEFT)]),
+    (0, &[(1, &[32769]), (16384, &[10])], &[(1, "refused 7")]),
+    (0, &[(1, &[32769]), (16384, &[1])], &[(1, "refused 7")]),
+    (1, &[(16385, &[10])], &[(1, "refused 7"), (1, LEFT)]),
+    (2, &[(37500, &[10])], &[(1, "refused 7"), (2, LEFT)]),
+    (2, &[(1, &[74999]), (37499, &[10])], &[(1, "refused 7"), (2, LEFT)]),
+    // The largest slice.
+    (65536, &[(1, &[5, 10, 14])], &[(1, "count 2 5 7"), (65534, LEFT)]),
+    (65536, &[(1, &[5, 10])], &[(1, "refused 13"), (65536, LEFT)]),
+];
+
 #[rustfmt::skip]
 const LIST: &[List] = &[
     (0, &[0, 127, 128, 12857, 18446744073709551615], "a5 5a 33 cc 96 69 0f f0 3c c3 a5 5a 33 cc 96 69", "count 16 007f8001b964ffffffffffffffffff01"),
@@ -921,11 +1121,7 @@ pub fn put_strict(input: &mut Vec<u8>) -> Vec<String> {
             .iter()
             .flat_map(|(times, hex)| bytes_of(hex).repeat(*times));
         put(input, 15, *size, 0, &bytes.collect::<Vec<u8>>());
-        lines.push(
-            line.iter()
-                .map(|(times, text)| text.repeat(*times))
-                .collect(),
-        );
+        lines.push(said_times(line));
     }
     lines
 }
@@ -953,6 +1149,38 @@ pub fn put_slips(input: &mut Vec<u8>) -> Vec<String> {
         add(*op, *a, *b, &bytes_of(bytes), line);
     }
     lines
+}
+
+/// The known cases for phrases inside phrases, which stand before the cases of their kind too. Gives
+/// the answers as `put_known` does.
+pub fn put_phrases(input: &mut Vec<u8>) -> Vec<String> {
+    let mut lines = Vec::new();
+    for (size, numbers, line) in PHRASE {
+        put_numbers(input, 22, *size, numbers, &[]);
+        lines.push(line.replace(" _", LEFT));
+    }
+    for (op, a, b, bytes, line) in PHRASE_FRAME {
+        put(input, *op, *a, *b, &bytes_of(bytes));
+        lines.push(line.to_string());
+    }
+    lines.extend(put_times(input, LIMIT_PHRASE));
+    lines
+}
+
+fn put_times(input: &mut Vec<u8>, phrases: &[LongPhrase]) -> Vec<String> {
+    let mut lines = Vec::new();
+    for (size, numbers, line) in phrases {
+        let all = numbers.iter().map(|(times, some)| some.repeat(*times));
+        put_numbers(input, 22, *size, &all.collect::<Vec<_>>().concat(), &[]);
+        lines.push(said_times(line));
+    }
+    lines
+}
+
+fn said_times(line: &[Times]) -> String {
+    line.iter()
+        .map(|(times, text)| text.repeat(*times))
+        .collect()
 }
 
 /// Fives in blocks and lists: some thousands, and the most that there may be; then one byte or number
@@ -1043,6 +1271,7 @@ pub fn put_long(input: &mut Vec<u8>) -> Vec<String> {
     put_list(input, 1, &[LARGEST; 16385], &[0xa5; 163851]);
     lines.push("refused 7 ".to_string() + &"a5".repeat(163851));
     lines.extend(put_long_places(input));
+    lines.extend(put_times(input, LONG_PHRASE));
     lines
 }
 
@@ -1076,6 +1305,7 @@ pub fn check() -> Result<(), String> {
     let mut lines = put_known(&mut known);
     lines.extend(put_strict(&mut known));
     lines.extend(put_slips(&mut known));
+    lines.extend(put_phrases(&mut known));
     lines.extend(put_long(&mut known));
     let items = frames(&known);
     if items.len() != lines.len() {

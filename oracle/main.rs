@@ -9,10 +9,11 @@
 //!   oracle try-list few COMMAND [WORD...]    runs a command on inputs for the listing, and says
 //!   oracle try-list many COMMAND [WORD...]   where it writes something else
 //!
-//! frames.rs has the layout of a frame; numbers.rs, blocks.rs and slips.rs the rules; answers.rs
-//! the line for each op and listing.rs the listing; known.rs the answers written down by hand;
-//! cases.rs, block_cases.rs and slip_cases.rs the cases, strict_cases.rs more of them for strict
-//! reading, random.rs what they draw from a seed; trying.rs the inputs that `list` is run on.
+//! frames.rs has the layout of a frame; numbers.rs, blocks.rs, slips.rs and phrases.rs the rules;
+//! answers.rs the line for each op and listing.rs the listing; known.rs the answers written down by
+//! hand; cases.rs, block_cases.rs, slip_cases.rs and phrase_cases.rs the cases, strict_cases.rs more
+//! of them for strict reading, random.rs what they draw from a seed; trying.rs the inputs that `list`
+//! is run on.
 //! Built by: rustc -O --edition 2021 -o target/oracle/oracle oracle/main.rs
 
 mod answers;
@@ -23,6 +24,8 @@ mod frames;
 mod known;
 mod listing;
 mod numbers;
+mod phrase_cases;
+mod phrases;
 mod random;
 mod slip_cases;
 mod slips;

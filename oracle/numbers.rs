@@ -8,13 +8,14 @@
 //!   length, form   the count of bytes of the shortest form, and its bytes
 //!   read, write    the number desk
 //!   store          bytes put at a place, if there is room
+//!   fill           numbers put to the front of an answer slice, if there is room
 //!
 //! Each is the document's sentence over wide arithmetic, not the usual loop of shifts: it is held
 //! against a program that has such loops and must not share a slip with it. Where the document
 //! says a thing twice, both are here and `read` and `form` stop the run if they part.
 
-/// The number of a refusal, from the table of refusals; 9 and 11 from document 02, #101 and #104.
-/// What refuses with this carries "its number and nothing else".
+/// The number of a refusal, from the table of refusals; 9, 11 and 13 from document 02, #101, #104
+/// and #110. What refuses with this carries "its number and nothing else".
 pub type Refusal = u8;
 pub const END: Refusal = 1;
 pub const OVERFLOW: Refusal = 2;
@@ -26,6 +27,7 @@ pub const TOO_LONG: Refusal = 7;
 pub const NO_START: Refusal = 8;
 pub const THREAD: Refusal = 9;
 pub const SLIP: Refusal = 11;
+pub const TREE: Refusal = 13;
 
 /// Document 02, #108: "A number reader's refusal shall also give the place of the byte that decided
 /// it." Counted from the first of all the bytes, not from the start asked.
@@ -254,4 +256,14 @@ pub fn store(bytes: &[u8], buffer: &mut [u8], place: u64) -> Result<usize, Refus
         buffer[place as usize + i] = *byte;
     }
     Ok(bytes.len())
+}
+
+/// Fills the front of an answer slice, leaves the rest, and gives the count; 5 if there are "more
+/// numbers than the answer slice holds".
+pub fn fill(numbers: &[u64], slice: &mut [u64]) -> Result<usize, Refusal> {
+    if numbers.len() > slice.len() {
+        return Err(NO_ROOM);
+    }
+    slice[..numbers.len()].copy_from_slice(numbers);
+    Ok(numbers.len())
 }

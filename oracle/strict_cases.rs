@@ -283,10 +283,14 @@ const ENOUGH: usize = 0;
 const NONE: usize = 2;
 
 /// Rooms of the answer slice: just enough, one short, none, one more, twenty more.
+pub fn rooms_around(enough: usize) -> [u64; 5] {
+    let short = enough.saturating_sub(1);
+    let all = [enough, short, 0, enough + 1, enough + 20];
+    all.map(|room| (room as u64).min(MOST_OF_SLICE))
+}
+
 fn rooms(block: &[u8]) -> [u64; 5] {
-    let enough = groups(block) as u64;
-    let all = [enough, enough.saturating_sub(1), 0, enough + 1, enough + 20];
-    all.map(|room| room.min(MOST_OF_SLICE))
+    rooms_around(groups(block))
 }
 
 /// Plans of one kind. Only one in so many of them is made: a count that has no factor in common with

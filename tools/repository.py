@@ -140,11 +140,20 @@ def definition_text(path):
     return "\n".join(line.partition("--")[0] for line in read(path).split("\n"))
 
 
+# What stands at the left edge of a text, each with what is indented below it; the members of a `mutual` block as if they stood there themselves.
+def at_the_edge(text):
+    for block in re.split(r"\n(?=\S)", text):
+        if re.match(r"(?:unfoldable |abbrev )*mutual\n", block):
+            yield from at_the_edge(re.sub(r"(?m)^  ", "", block.partition("\n")[2]))
+        else:
+            yield block
+
+
 # The text of each name that a file declares at its left edge, and which of them are public.
 @functools.cache
 def declarations(path):
     found, public = {}, set()
-    for block in re.split(r"\n(?=\S)", definition_text(path)):
+    for block in at_the_edge(definition_text(path)):
         head = re.match(r"((?:unfoldable |abbrev |pub |data |record )*)([^\s({:]+)", block)
         if head and head[2] not in ("use", "mod", "module", "unfolding", "where", "pub"):
             found[head[2]] = found.get(head[2], "") + "\n" + block

@@ -3,6 +3,7 @@ mod floats;
 mod frames;
 mod hex;
 mod lines;
+mod listed;
 mod listings;
 mod numbers;
 mod ops;
@@ -14,6 +15,7 @@ mod writes;
 use frames::Coming;
 use frames::MOST_BYTES;
 use libc::STDOUT_FILENO;
+use listed::MOST_LISTED;
 use listing::TEXT_ROOM;
 use slices::MOST_NUMBERS;
 use texts::word;
@@ -35,6 +37,7 @@ fn write_line(output: &mut [u8], filled: Count) -> bool {
 // Answers the next frame, and says whether to go on: a frame came, and its line could be written.
 fn answer_next(
     input: &mut [u8],
+    list: &mut [u64],
     slots: &mut [u64],
     text: &mut [u8; TEXT_ROOM],
     output: &mut [u8],
@@ -47,7 +50,7 @@ fn answer_next(
         }
         Coming::Whole(frame) => {
             let n = frame.n;
-            let filled = ops::answer(frame, &mut input[0..n], slots, text, output);
+            let filled = ops::answer(frame, &mut input[0..n], list, slots, text, output);
             write_line(output, filled)
         }
     }
@@ -59,6 +62,7 @@ fn answer_next(
 // It takes the arrays whole: to lend one as a slice where it is made costs the check a step for each of its bytes.
 fn answer_all(
     input: &mut [u8; MOST_BYTES],
+    list: &mut [u64; MOST_LISTED],
     slots: &mut [u64; MOST_NUMBERS],
     text: &mut [u8; TEXT_ROOM],
     output: &mut [u8; OUTPUT],
@@ -66,7 +70,7 @@ fn answer_all(
     let mut left = u64::MAX;
     while 0 < left {
         left -= 1;
-        if !answer_next(input, slots, text, output) {
+        if !answer_next(input, list, slots, text, output) {
             return;
         }
     }
@@ -75,8 +79,9 @@ fn answer_all(
 // The arrays are made once, and not for each frame that needs one: to fill it takes longer than most ops do.
 fn main() {
     let mut input = [0u8; MOST_BYTES];
+    let mut list = [0u64; MOST_LISTED];
     let mut slots = [0u64; MOST_NUMBERS];
     let mut text = [0u8; TEXT_ROOM];
     let mut output = [0u8; OUTPUT];
-    answer_all(&mut input, &mut slots, &mut text, &mut output);
+    answer_all(&mut input, &mut list, &mut slots, &mut text, &mut output);
 }

@@ -63,15 +63,17 @@ fn look(frame: Frame, bytes: &[u8]) -> Line {
 pub(crate) fn answer(
     frame: Frame,
     bytes: &mut [u8],
+    list: &mut [u64],
     slots: &mut [u64],
     text: &mut [u8; TEXT_ROOM],
     out: &mut [u8],
 ) -> Count {
     let op = frame.op;
     match op {
-        5..=8 | 16 | 20 => writes::answer(frame, bytes, slots, out),
+        5..=8 | 16 | 20 => writes::answer(frame, bytes, list, out),
         15 => slices::read_strict(frame.a, bytes, slots, out),
         18 => listings::list(bytes, text, out),
+        22 => slices::read_phrase(frame, bytes, list, slots, out),
         _ => look(frame, bytes).lay(out, Count(0)),
     }
 }

@@ -3,7 +3,9 @@ use crate::lines::Line;
 use crate::lines::says;
 use blocks::SetDown;
 use blocks::Step;
+use lists::Numbers;
 use lists::ReadList;
+use phrases::ReadPhrase;
 use sleb128::ReadI64;
 use slips::ReadSetting;
 use slips::Setting;
@@ -96,11 +98,22 @@ pub(crate) fn meaning(answer: Meaning) -> Line {
     }
 }
 
+fn filled(numbers: Numbers) -> Line {
+    says(b"count").number(numbers.0 as u64)
+}
+
 pub(crate) fn read_list(answer: ReadList) -> Line {
     match answer {
-        ReadList::Filled(numbers) => says(b"count").number(numbers.0 as u64),
+        ReadList::Filled(numbers) => filled(numbers),
         ReadList::Faulty(refusal, place) => decided(refusal, place),
         ReadList::Refused(refusal) => refused(refusal),
+    }
+}
+
+pub(crate) fn read_phrase(answer: ReadPhrase) -> Line {
+    match answer {
+        ReadPhrase::Filled(numbers) => filled(numbers),
+        ReadPhrase::Refused(refusal) => refused(refusal),
     }
 }
 

@@ -1,8 +1,8 @@
 // The ops that write into the bytes of a frame. Behind what the writer answered stand the bytes that it was lent, in
 // hexadecimal.
 use crate::frames::Frame;
-use crate::frames::eight;
 use crate::hex;
+use crate::listed::take_numbers;
 use crate::numbers;
 use crate::numbers::Narrow;
 use crate::said;
@@ -11,8 +11,6 @@ use crate::settings::Asked;
 use words::Count;
 use words::Place;
 use words::Written;
-ghost use Prim.Native.Nat.{_*_, _≤_};
-ghost use lib.ListN.{length};
 
 // What comes of such an op: the writer's answer, and the place from which on it was lent the bytes; or the op is unknown.
 enum Wrote {
@@ -20,32 +18,20 @@ enum Wrote {
     Unknown,
 }
 
-// Takes the numbers that stand in front of the bytes, eight bytes for each.
-fn take_numbers(bytes: &[u8], numbers: &mut [u64])
-    requires { ⌜ length (now numbers) * 8 ≤ length (now bytes) ⌝ }
-{
-    let mut i = 0;
-    while i < numbers.len() {
-        let from = i * 8;
-        numbers[i] = eight(bytes, from);
-        i += 1;
-    }
-}
-
 // List writing of so many numbers, which stand in front of the bytes, into the bytes behind them. The op is unknown if the
 // bytes do not hold so many.
-fn write_list(asked: u64, bytes: &mut [u8], slots: &mut [u64], place: Place) -> Wrote {
+fn write_list(asked: u64, bytes: &mut [u8], list: &mut [u64], place: Place) -> Wrote {
     let count = asked as usize;
-    if slots.len() < count {
+    if list.len() < count {
         return Wrote::Unknown;
     }
     if bytes.len() / 8 < count {
         return Wrote::Unknown;
     }
     let behind = count * 8;
-    let list = &mut slots[0..count];
-    take_numbers(bytes, list);
-    let answer = lists::write_list(list, &mut bytes[behind..], place);
+    let numbers = &mut list[0..count];
+    take_numbers(bytes, numbers);
+    let answer = lists::write_list(numbers, &mut bytes[behind..], place);
     Wrote::Answer(answer, Place(behind))
 }
 
@@ -71,7 +57,7 @@ fn write_setting(kind: u64, bytes: &mut [u8], place: Place) -> Wrote {
     }
 }
 
-fn write(frame: Frame, bytes: &mut [u8], slots: &mut [u64]) -> Wrote {
+fn write(frame: Frame, bytes: &mut [u8], list: &mut [u64]) -> Wrote {
     let op = frame.op;
     let a = frame.a;
     let b = frame.b;
@@ -82,7 +68,7 @@ fn write(frame: Frame, bytes: &mut [u8], slots: &mut [u64]) -> Wrote {
         6 => Wrote::Answer(uleb128_rec::write_u64_rec(a, bytes, place), front),
         7 => write_u32(a, bytes, place),
         8 => Wrote::Answer(sleb128::write_i64(numbers::signed(a), bytes, place), front),
-        16 => write_list(b, bytes, slots, Place(a as usize)),
+        16 => write_list(b, bytes, list, Place(a as usize)),
         20 => write_setting(a, bytes, place),
         _ => Wrote::Unknown,
     }
@@ -99,7 +85,7 @@ fn lay(wrote: Wrote, bytes: &[u8], out: &mut [u8]) -> Count {
 }
 
 // The line for such an op.
-pub(crate) fn answer(frame: Frame, bytes: &mut [u8], slots: &mut [u64], out: &mut [u8]) -> Count {
-    let wrote = write(frame, bytes, slots);
+pub(crate) fn answer(frame: Frame, bytes: &mut [u8], list: &mut [u64], out: &mut [u8]) -> Count {
+    let wrote = write(frame, bytes, list);
     lay(wrote, bytes, out)
 }

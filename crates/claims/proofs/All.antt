@@ -8,6 +8,7 @@ use Rattle.claims.proofs.OfDamage.{damage}
 use Rattle.claims.proofs.OfLists.{lists}
 use Rattle.claims.proofs.OfTurns.{turns}
 use Rattle.claims.proofs.OfSlips.{slips}
+use Rattle.claims.proofs.OfPhrases.{phrases}
 use Rattle.claims.proofs.OfListing.{listing}
 
 pub all : Claims
@@ -18,5 +19,6 @@ all = record {
   lists = lists;
   turns = turns;
   slips = slips;
+  phrases = phrases;
   listing = listing;
 }

@@ -25,7 +25,9 @@ mod OfDamage
 mod OfLists
 mod OfTurns
 mod OfSlips
+mod OfPhrases
 mod OfListing
 mod Instances
 mod SlipInstances
+mod PhraseInstances
 pub mod All

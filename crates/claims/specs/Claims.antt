@@ -9,6 +9,7 @@ use Rattle.claims.specs.OfDamage.{OfDamage}
 use Rattle.claims.specs.OfLists.{OfLists}
 use Rattle.claims.specs.OfTurns.{OfTurns}
 use Rattle.claims.specs.OfSlips.{OfSlips}
+use Rattle.claims.specs.OfPhrases.{OfPhrases}
 use Rattle.claims.specs.OfListing.{OfListing}
 
 pub record Claims : Type 0 where
@@ -18,4 +19,5 @@ pub record Claims : Type 0 where
   pub lists : OfLists
   pub turns : OfTurns
   pub slips : OfSlips
+  pub phrases : OfPhrases
   pub listing : OfListing

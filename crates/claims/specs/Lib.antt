@@ -8,5 +8,6 @@ pub mod OfDamage
 pub mod OfLists
 pub mod OfTurns
 pub mod OfSlips
+pub mod OfPhrases
 pub mod OfListing
 pub mod Claims

@@ -1,5 +1,5 @@
 // How the number code is used from a crate of one's own: writing, reading, what a turn means, stepping, set-down, strict
-// reading, and the settings of tools. Every answer is taken apart by a `match` and becomes a line of standard output. README.md shows parts of this file.
+// reading, the settings of tools, and phrases. Every answer is taken apart by a `match` and becomes a line of standard output. README.md shows parts of this file.
 use blocks::Cursor;
 use blocks::Rule;
 use blocks::SetDown;
@@ -8,6 +8,7 @@ use groups::Value;
 use libc::STDOUT_FILENO;
 use lists::Numbers;
 use lists::ReadList;
+use phrases::ReadPhrase;
 use sleb128::ReadI64;
 use slips::Range;
 use slips::ReadSetting;
@@ -150,6 +151,14 @@ fn say_whether(in_range: bool) {
     line(b"out of range\n");
 }
 
+// Reads the sentences of a phrase into a slice, or none of them if the list is anything but one item.
+fn read_phrase(numbers: &[u64], sentences: &mut [u64]) {
+    match phrases::read_phrase(numbers, sentences) {
+        ReadPhrase::Filled(count) => say_sentences(count),
+        ReadPhrase::Refused(refusal) => say_refused(refusal),
+    }
+}
+
 fn line(text: &[u8]) {
     io::write_all(STDOUT_FILENO, text);
 }
@@ -178,6 +187,10 @@ fn say_count(count: Count) {
 
 fn say_numbers(count: Numbers) {
     say(b"numbers ", count.0 as u64);
+}
+
+fn say_sentences(count: Numbers) {
+    say(b"sentences ", count.0 as u64);
 }
 
 fn say_tail(count: Count) {
@@ -245,9 +258,20 @@ fn show_settings() {
     read_setting(&buffer, Place(9), 40.0);
 }
 
+// A branch of two items: sentence 7, and a branch of one item, sentence 3. Without its last number it is no item.
+fn show_phrases() {
+    let phrase = [5u64, 14, 3, 6];
+    let mut sentences = [0u64; 3];
+    read_phrase(&phrase, &mut sentences);
+    say_number(sentences[0]);
+    say_number(sentences[1]);
+    read_phrase(&phrase[0..3], &mut sentences);
+}
+
 fn main() {
     show_numbers();
     show_block(b"\x05\x80\x00\x80\x01\x83");
     show_block(b"\x05\x80\x01");
     show_settings();
+    show_phrases();
 }

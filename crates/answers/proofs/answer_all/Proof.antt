@@ -4,10 +4,10 @@ use Rattle.answers.proofs.answer_all.Statement.{statement}
 use Rattle.answers.proofs.answer_all.Tie as tie
 
 abbrev Inv-loop : tie.InvT-loop
-Inv-loop input₀ slots₀ text₀ output₀ left₀ input slots text output left = Unit
+Inv-loop input₀ list₀ slots₀ text₀ output₀ left₀ input list slots text output left = Unit
 
 abbrev μ-loop : tie.MeasureT-loop
-μ-loop input₀ slots₀ text₀ output₀ left₀ input slots text output left = left
+μ-loop input₀ list₀ slots₀ text₀ output₀ left₀ input list slots text output left = left
 
 pub answer-all-spec : {M : Type 1} → statement M
 answer-all-spec =

@@ -1,10 +1,10 @@
--- `answers::writes::take_numbers` is safe and ends: the count of numbers that are left falls. The slice keeps its length, and the bytes hold eight for each number.
+-- `answers::listed::take_numbers` is safe and ends: the count of numbers that are left falls. The slice keeps its length, and the bytes hold eight for each number.
 use Prim.Native.Nat.{_≤_, _-_}
 use mathlib.Core.Path.{_≡_}
 use borrow.Author.Needs.{needs}
 use lib.ListN.{length, length-set}
-use Rattle.answers.proofs.writes.take_numbers.Statement.{statement}
-use Rattle.answers.proofs.writes.take_numbers.Tie as tie
+use Rattle.answers.proofs.listed.take_numbers.Statement.{statement}
+use Rattle.answers.proofs.listed.take_numbers.Tie as tie
 
 abbrev Inv-loop : tie.InvT-loop
 Inv-loop bytes numbers₀ i₀ numbers i = (length numbers ≡ length numbers₀) × (i ≤ length numbers)
