@@ -1,13 +1,14 @@
 //! bench: holds our functions to ordinary ones, then times them side by side and prints tables.
 //!
 //!   ours, ordinary     the two sides
-//!   writing, reading   what is checked, timed and printed of each
+//!   writing, reading, phrases   what is checked, timed and printed of each
 //!   blocks             what is read
 //!   common             what is shared
 mod blocks;
 mod common;
 mod ordinary;
 mod ours;
+mod phrases;
 mod reading;
 mod writing;
 
@@ -19,7 +20,9 @@ fn main() -> io::Result<()> {
     let mut check = Check { cases: 0 };
     writing::check(&mut check, &mut random);
     reading::check(&mut check, &mut random);
+    phrases::check(&mut check, &mut random);
     writeln!(io::stdout(), "checked: {} cases, and the answers agree", check.cases)?;
     writing::table(&mut random)?;
-    reading::tables(&mut random)
+    reading::tables(&mut random)?;
+    phrases::tables(&mut random)
 }

@@ -1,4 +1,5 @@
 //! Our functions, as safe Rust ones: what bench/timed.rattle hands out. A slice goes there as a pointer and a length.
+use crate::ordinary::phrases::Filled;
 use crate::ordinary::reading::{Read, Step, Strict};
 use crate::ordinary::writing::Written;
 
@@ -31,6 +32,8 @@ extern "C" {
     fn told_read_strict(block: *const u8, n: usize, numbers: *mut u64, room: usize, told: *mut u64, size: usize);
     fn told_text_room() -> usize;
     fn told_lay_listing(block: *const u8, n: usize, text: *mut u8) -> usize;
+
+    fn timed_read_phrase(numbers: *const u64, n: usize, sentences: *mut u64, room: usize) -> i64;
 }
 
 /// A count or a place, or below zero a refusal.
@@ -148,4 +151,10 @@ pub fn text_room() -> usize {
 pub fn lay_listing(block: &[u8], text: &mut [u8]) -> usize {
     assert_eq!(text.len(), text_room());
     unsafe { told_lay_listing(block.as_ptr(), block.len(), text.as_mut_ptr()) }
+}
+
+// ---- phrases
+
+pub fn read_phrase(numbers: &[u64], sentences: &mut [u64]) -> Filled {
+    decoded(unsafe { timed_read_phrase(numbers.as_ptr(), numbers.len(), sentences.as_mut_ptr(), sentences.len()) })
 }

@@ -11,11 +11,12 @@ extern size stack_set_down(const byte *, size, size);
 extern size stack_read_strict(const byte *, size, size *, size);
 extern size stack_write_list(const size *, size, byte *, size);
 extern size stack_lay_listing(const byte *, size, byte *);
+extern size stack_read_phrase(const size *, size, size *, size);
 
 enum { BLOCK = 65536, LIST = 16384, FORMS = 10 * LIST, TEXT = 17 + 28 * BLOCK, REFUSALS = 100, PAINTED = 65536, PAINT = 0xa5 };
 
 static byte block[BLOCK], buffer[FORMS], text[TEXT];
-static size slice[BLOCK], list[LIST];
+static size slice[BLOCK], list[LIST], phrase[LIST];
 
 // What a block is made of, again and again: numbers of one byte, a tail, numbers of ten bytes, gaps of two and gaps of ten.
 static const byte sorts[][10] = {
@@ -27,6 +28,26 @@ static const byte sorts[][10] = {
 };
 enum { SORTS = sizeof sorts / sizeof *sorts };
 
+// What a phrase is: so many branches around each other, and in the innermost this item, again and again, and leaves in what it leaves of the list.
+// A branch of leaves, leaves inside eight branches, empty branches, nests as deep as may be, and leaves inside nine branches, which is refused.
+static const struct {
+    size branches, item[8], length;
+} phrases[SORTS] = {
+    {1, {10}, 1},
+    {8, {10}, 1},
+    {1, {1}, 1},
+    {1, {3, 3, 3, 3, 3, 3, 3, 10}, 8},
+    {9, {10}, 1},
+};
+
+static void make_phrase(size sort) {
+    size at = 0, length = phrases[sort].length, left = LIST - phrases[sort].branches, items = left / length;
+    while (at + 1 < phrases[sort].branches) phrase[at++] = 3;
+    phrase[at++] = 2 * (items + left % length) + 1;
+    for (size i = 0; i < items * length; i++) phrase[at++] = phrases[sort].item[i % length];
+    while (at < LIST) phrase[at++] = 10;
+}
+
 static size step_unsigned(void) { return stack_step_unsigned(block, BLOCK, 0); }
 static size step_signed(void) { return stack_step_signed(block, BLOCK, 0); }
 static size set_down(void) { return stack_set_down(block, BLOCK, 1); }
@@ -34,6 +55,7 @@ static size read_strict(void) { return stack_read_strict(block, BLOCK, slice, BL
 static size write_list(void) { return stack_write_list(list, LIST, buffer, FORMS); }
 static size write_list_short(void) { return stack_write_list(list, LIST, buffer, FORMS - 1); }
 static size lay_listing(void) { return stack_lay_listing(block, BLOCK, text); }
+static size read_phrase(void) { return stack_read_phrase(phrase, LIST, slice, LIST); }
 
 static const struct {
     const char *name;
@@ -46,6 +68,7 @@ static const struct {
     {"write_list", write_list},
     {"write_list, a byte short", write_list_short},
     {"lay_listing", lay_listing},
+    {"read_phrase", read_phrase},
 };
 
 static size answer;
@@ -68,6 +91,7 @@ int main(void) {
         for (size sort = 0; sort < SORTS; sort++) {
             for (size i = 0; i < BLOCK; i++) block[i] = sorts[sort][i % 10];
             for (size i = 0; i < LIST; i++) list[i] = -sort; // of one byte, then of ten
+            make_phrase(sort);
             size deep = taken(calls[c].call);
             if (deep > most) most = deep;
             if (answer >= REFUSALS) accepted++;
