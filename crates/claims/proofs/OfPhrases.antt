@@ -5,7 +5,7 @@
 --   behind-item              more numbers behind an item are behind it
 --   phrases                  the chapter
 use Prim.Native.Nat.{ℕ, zero, suc, _≤_}
-use mathlib.Core.List.{List, [], _∷_, _++_}
+use mathlib.Core.List.{List, [], _++_}
 use mathlib.Core.Path.{_≡_, refl, ap, sym, _∙_}
 use native.Mathlib.Omega.{arith}
 use lib.ListN.{length, drop}
@@ -14,8 +14,7 @@ use Rattle.words.specs.declared.Refusal.{Refusal}
 use Rattle.words.proofs.OneMeaning.{apart, refused-same}
 use Rattle.lists.specs.Lists.{listLimit}
 use Rattle.phrases.specs.Grammar.{Phrase, Phrases, phrase, sentence, nil, cons, Item, Items, leaf, branch, none, more, Good, sentences}
-use Rattle.phrases.specs.Promise.{PhraseRow, Phrased, row, fills, meansReadPhrase, ReadsPhrase}
-use Rattle.phrases.specs.declared.ReadPhrase.{ReadPhrase}
+use Rattle.phrases.specs.Promise.{PhraseRow, Phrased, row, fills, meansReadPhrase}
 use Rattle.phrases.specs.declared.ReadPhrase.the-variants.{Filled, Refused}
 use Rattle.phrases.proofs.OneReading.{one-item}
 use Rattle.phrases.proofs.OnePhrase.{one-phrased, same-phrase, some-phrase}

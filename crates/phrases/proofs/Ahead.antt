@@ -1,17 +1,17 @@
 -- What stands at the front of a list, line by line of the grammar.
 --
---   nothing-ahead               no item at the front of no numbers
+--   nothing-ahead               no numbers are no item
 --   leaf-ahead                  an even number is an item
 --   too-deep                    an odd number is none where no branch may nest
---   branch-ahead, ahead-branch  an odd number is one exactly if so many stand behind it
---   none-ahead                  no items stand everywhere
---   more-ahead, ahead-more      behind an item, one item more is ahead of it
---   no-first                    where no item is, none are
-use Prim.Native.Nat.{ℕ, zero, suc, _/_, _%_, _<_, _≤_}
+--   branch-ahead, ahead-branch  an odd number is one exactly if as many as it says stand behind it
+--   none-ahead                  no items take no number
+--   more-ahead, ahead-more      where an item stands, there are k items behind it exactly if there are k + 1 from it on
+--   no-first                    where none stands, there aren't k + 1
+use Prim.Native.Nat.{ℕ, suc, _/_, _%_, _<_, _≤_}
 use mathlib.Core.List.{List, [], _∷_}
 use mathlib.Core.Path.{_≡_}
 use native.Mathlib.Omega.{arith}
-use Rattle.phrases.specs.Grammar.{Phrase, Phrases, nil, cons, Item, Items, leaf, branch, none, more}
+use Rattle.phrases.specs.Grammar.{nil, cons, leaf, branch, none, more}
 use Rattle.phrases.specs.Inner.{OneAhead, SomeAhead}
 use Rattle.phrases.proofs.OneReading.{one-item}
 

@@ -2,11 +2,10 @@
 --
 --   good-halves   those of a good list are all of them
 use Prim.Native.Nat.{ℕ, _+_, _*_, _/_, _%_}
-use mathlib.Core.List.{List, [], _∷_, _++_, append-assoc, append-nil}
+use mathlib.Core.List.{List, _∷_, _++_, append-assoc, append-nil}
 use mathlib.Core.Path.{_≡_, refl, ap, sym, _∙_}
 use native.Mathlib.Omega.{arith}
 use borrow.Author.Tests.{le-ltb, lt-ltb}
-use lib.Dec.{ltb}
 use Rattle.phrases.specs.Grammar.{Phrase, Phrases, Item, Items, leaf, branch, none, more, Good, sentences, sentencesOf}
 use Rattle.phrases.specs.Inner.{halves}
 

@@ -4,7 +4,7 @@
 --   one-phrased    no second answer, and no second slice
 --   same-phrase    answers that mean the same are the same
 --   some-phrase    and some answer there is
-use Prim.Native.Nat.{ℕ, _<_, _≤_}
+use Prim.Native.Nat.{ℕ, _≤_}
 use mathlib.Core.List.{List, _++_}
 use mathlib.Core.Logic.{⊎-elim}
 use mathlib.Core.Path.{_≡_, refl, ap}

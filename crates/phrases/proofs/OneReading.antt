@@ -5,7 +5,7 @@ use Prim.Native.Nat.{ℕ}
 use mathlib.Core.List.{List}
 use mathlib.Core.Path.{_≡_, refl, ap}
 use native.Mathlib.Omega.{arith}
-use Rattle.phrases.specs.Grammar.{Phrase, Phrases, sentence, phrase, cons, Item, Items, leaf, branch, none, more}
+use Rattle.phrases.specs.Grammar.{Phrase, Phrases, sentence, phrase, Item, Items, leaf, branch, none, more}
 
 mutual
   pub one-item : {d e : ℕ} {s r q : List ℕ} {p p′ : Phrase} → Item d s p r → Item e s p′ q → (p ≡ p′) × (r ≡ q)

@@ -5,10 +5,10 @@ use Prim.Native.Nat.{ℕ, _≤_, _<_}
 use mathlib.Core.Path.{_≡_, refl, ap, _∙_}
 use mathlib.Core.List.{List, []}
 use native.Mathlib.Omega.{arith}
-use lib.ListN.{length, drop, length-drop, drop-of-length-le}
+use lib.ListN.{length, length-drop, drop-of-length-le}
 use Rattle.words.specs.declared.Refusal.the-variants as Why
 use Rattle.lists.specs.Lists.{listLimit}
-use Rattle.phrases.specs.Grammar.{Phrase, nil, cons, none, more, nesting, Good, sentences}
+use Rattle.phrases.specs.Grammar.{Phrase, nil, cons, none, more, nesting, Good}
 use Rattle.phrases.specs.Inner.{SomeAhead, Passes, halves, Fills}
 use Rattle.phrases.specs.Promise.{too-long, not-good, no-room, row, fills, ReadsPhrase}
 use Rattle.phrases.specs.declared.ReadPhrase.the-variants.{Filled, Refused}

@@ -87,30 +87,9 @@ pub +item+items-spec : {M : Type 1} → statement M
     close
     μ-item
     μ-items
-    (λ t. item-lts.spec
-    (item-calls t)
-    (item-at t)
-    item.Post
-    (λ c. search needs)
-    (item-returns t)
-    (λ c. search needs)
-    (λ c. search needs)
-    (λ c. search needs)
-    (item-returns-2 t)
-    (item-returns-3 t)
-    (item-returns-4 t)
-    (item-items-requires t)
-    (item-returns-5 t))
-    λ t. items-lts.spec
-    (items-calls t)
-    (items-at t)
-    items.Post
-    items-Inv-loop
-    items-μ-loop
-    (items-loop-holds t)
-    (λ c. search needs)
-    (items-item-requires t)
-    (items-returns t)
-    (λ c. search needs)
-    (items-loop-again t)
+    (λ t. item-lts.spec (item-calls t) (item-at t) item.Post (λ c. search needs) (item-returns t) (λ c. search needs)
+    (λ c. search needs) (λ c. search needs) (item-returns-2 t) (item-returns-3 t) (item-returns-4 t)
+    (item-items-requires t) (item-returns-5 t))
+    λ t. items-lts.spec (items-calls t) (items-at t) items.Post items-Inv-loop items-μ-loop (items-loop-holds t)
+    (λ c. search needs) (items-item-requires t) (items-returns t) (λ c. search needs) (items-loop-again t)
     (items-returns-2 t)

@@ -45,18 +45,5 @@ returns c = all-stored (c .before .before .pre) (c .before .loop .inv) (search n
 pub fill-spec : {M : Type 1} → statement M
 fill-spec =
     tie.close
-    (tie.spec
-    Inv-loop
-    μ-loop
-    loop-holds
-    mul-n
-    shared-slice-read-n
-    (λ c. search needs)
-    mul-sentences
-    slice-write-sentences
-    add-at
-    (λ c. search needs)
-    loop-less
-    loop-again
-    same-length
-    returns)
+    (tie.spec Inv-loop μ-loop loop-holds mul-n shared-slice-read-n (λ c. search needs) mul-sentences
+    slice-write-sentences add-at (λ c. search needs) loop-less loop-again same-length returns)

@@ -26,13 +26,5 @@ returns-5 c =
 pub read-phrase-spec : {M : Type 1} → statement M
 read-phrase-spec =
     tie.close
-    (tie.spec
-    returns
-    (λ c κs. search needs)
-    returns-2
-    returns-3
-    (λ c κs. search needs)
-    returns-4
-    (λ c κs. search needs)
-    (λ c. search needs)
-    returns-5)
+    (tie.spec returns (λ c κs. search needs) returns-2 returns-3 (λ c κs. search needs) returns-4
+    (λ c κs. search needs) (λ c. search needs) returns-5)
