@@ -25,6 +25,7 @@ mod OfDamage
 mod OfLists
 mod OfTurns
 mod OfSlips
+mod PhraseSpelled
 mod OfPhrases
 mod OfListing
 mod Instances

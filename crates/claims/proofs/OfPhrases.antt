@@ -2,7 +2,6 @@
 --
 --   filled-by, refused-by    what a promised answer rests on
 --   nested, within-nesting   a leaf inside k branches is an item where that many may nest, and only there
---   behind-item              more numbers behind an item are behind it
 --   phrases                  the chapter
 use Prim.Native.Nat.{ℕ, zero, suc, _≤_}
 use mathlib.Core.List.{List, [], _++_}
@@ -13,12 +12,13 @@ use Rattle.words.specs.Answer.{Answer, gives, refused, because}
 use Rattle.words.specs.declared.Refusal.{Refusal}
 use Rattle.words.proofs.OneMeaning.{apart, refused-same}
 use Rattle.lists.specs.Lists.{listLimit}
-use Rattle.phrases.specs.Grammar.{Phrase, Phrases, phrase, sentence, nil, cons, Item, Items, leaf, branch, none, more, Good, sentences}
+use Rattle.phrases.specs.Grammar.{Phrase, phrase, sentence, nil, cons, Item, leaf, branch, none, more, Good, sentences}
 use Rattle.phrases.specs.Promise.{PhraseRow, Phrased, row, fills, meansReadPhrase}
 use Rattle.phrases.specs.declared.ReadPhrase.the-variants.{Filled, Refused}
 use Rattle.phrases.proofs.OneReading.{one-item}
 use Rattle.phrases.proofs.OnePhrase.{one-phrased, same-phrase, some-phrase}
-use Rattle.claims.specs.OfPhrases.{FillsPhrase, LeavesSlice, RefusesPhrase, NoFront, inside, NestsTo8, EmptyPhrases, OfPhrases}
+use Rattle.claims.proofs.PhraseSpelled.{phrase-spelled, no-front}
+use Rattle.claims.specs.OfPhrases.{FillsPhrase, LeavesSlice, RefusesPhrase, inside, NestsTo8, EmptyPhrases, OfPhrases}
 
 record FilledBy (s old : List ℕ) (n : ℕ) (out : List ℕ) : Type 0 where
   says : Phrase
@@ -57,18 +57,6 @@ phrase-refuses s old r out q why = (
   λ x. same-phrase r (Refused why) (one-phrased (q .answer) (row x) .0),
 )
 
-mutual
-  behind-item : {d : ℕ} {s r : List ℕ} {p : Phrase} → Item d s p r → (t : List ℕ) → Item d (s ++ t) p (r ++ t)
-  behind-item (leaf e) t = leaf e
-  behind-item (branch e xs) t = branch e (behind-items xs t)
-
-  behind-items : {d k : ℕ} {s r : List ℕ} {ps : Phrases} → Items d k s ps r → (t : List ℕ) → Items d k (s ++ t) ps (r ++ t)
-  behind-items none t = none
-  behind-items (more x xs) t = more (behind-item x t) (behind-items xs t)
-
-no-front : NoFront
-no-front s t p q x y = one-item (behind-item x t) y .1
-
 nested : (k d : ℕ) → k ≤ d → (p : Phrase) × Item d (inside k) p []
 nested zero d h = (sentence 0, leaf refl)
 nested (suc k) zero h = absurd (omega arith)
@@ -91,6 +79,7 @@ phrases = record {
   phrase-fills = phrase-fills;
   phrase-leaves = phrase-leaves;
   phrase-refuses = phrase-refuses;
+  phrase-spelled = phrase-spelled;
   one-reading = λ s p q x y. one-item x y .0;
   no-front = no-front;
   nests-to-8 = nests-to-8;
