@@ -66,7 +66,29 @@ impl Check {
             }
         }
     }
+
+    /// The same for readers that fill a slice: into one that is empty, one that is short by one, one that just fits, and an ample one. What each leaves
+    /// there agrees too, and a refusal changes no number.
+    pub fn agree_into<I: ?Sized, A: PartialEq, E: PartialEq>(&mut self, what: impl Fn() -> String, input: &I, needed: usize, readers: &[(&str, IntoSlice<I, A, E>)]) {
+        for room in [0, needed.saturating_sub(1), needed, needed + 3] {
+            let what = || format!("{} into {room}", what());
+            let marked: Vec<u64> = (0..room as u64).map(|i| !i).collect();
+            let mut answers = readers.iter().map(|(name, read)| {
+                let mut slice = marked.clone();
+                let answer = read(input, &mut slice);
+                if answer.is_err() && slice != marked {
+                    differ(&format!("{}: a refused reading changed a number", what()), name);
+                }
+                (*name, (answer, slice))
+            });
+            let (_, ours) = answers.next().unwrap();
+            self.agree(what, ours, answers);
+        }
+    }
 }
+
+/// Reads into the front of a slice.
+pub type IntoSlice<I, A, E> = fn(&I, &mut [u64]) -> Result<A, E>;
 
 pub fn differ(what: &str, name: &str) -> ! {
     eprintln!("bench: {name} and ours differ: {what}");

@@ -1,6 +1,6 @@
 //! Single reads, steps, and what goes over a whole block. A pass goes over a block of 60,000 bytes, or as many as whole groups make.
 use crate::blocks::{self, Block, Blocks, Kind, I64, U32, U64};
-use crate::common::{beside, differ, figure, head, row, row_beside, time, Check, Random, LONGEST, MIXES, NINE_IN_TEN, ONE_BYTE};
+use crate::common::{beside, figure, head, row, row_beside, time, Check, Random, LONGEST, MIXES, NINE_IN_TEN, ONE_BYTE};
 use crate::ordinary::reading::{self as ordinary, Pass, Read, Reader, Step, Stepper, Strict};
 use crate::ordinary::BLOCK_LIMIT;
 use crate::ours;
@@ -159,23 +159,9 @@ fn check_places(check: &mut Check, block: &[u8], places: impl IntoIterator<Item 
     }
 }
 
-/// Strict reading into a slice that is empty, one that is short by one, one that just fits, and an ample one.
 fn check_strict(check: &mut Check, block: &[u8]) {
     let groups = block.iter().filter(|&&b| b < 128).count();
-    for room in [0, groups.saturating_sub(1), groups, groups + 3] {
-        let what = || format!("strict reading into {room} of {}", shown(block));
-        let marked: Vec<u64> = (0..room as u64).map(|i| !i).collect();
-        let mut answers = strict_readers().into_iter().map(|(name, read)| {
-            let mut numbers = marked.clone();
-            let answer = read(block, &mut numbers);
-            if answer.is_err() && numbers != marked {
-                differ(&format!("{}: a refused reading changed a number", what()), name);
-            }
-            (name, (answer, numbers))
-        });
-        let (_, ours) = answers.next().unwrap();
-        check.agree(what, ours, answers);
-    }
+    check.agree_into(|| format!("strict reading of {}", shown(block)), block, groups, &strict_readers());
 }
 
 /// Strict reading of blocks long enough for every way that it has: whole, damaged, and with each byte that decides something at one place.
