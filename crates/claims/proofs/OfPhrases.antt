@@ -2,9 +2,10 @@
 --
 --   filled-by, refused-by    what a promised answer rests on
 --   nested, within-nesting   a leaf inside k branches is an item where that many may nest, and only there
+--   empty-branch             an empty branch is good
 --   phrases                  the chapter
 use Prim.Native.Nat.{ℕ, zero, suc, _≤_}
-use mathlib.Core.List.{List, [], _++_}
+use mathlib.Core.List.{List, [], _∷_, _++_}
 use mathlib.Core.Path.{_≡_, refl, ap, sym, _∙_}
 use native.Mathlib.Omega.{arith}
 use lib.ListN.{length, drop}
@@ -71,8 +72,11 @@ within-nesting (suc k) (suc d) (branch e (more x xs)) = let h = within-nesting k
 nests-to-8 : NestsTo8
 nests-to-8 k = (λ x. within-nesting k 8 (x .1), nested k 8)
 
+empty-branch : Good (1 ∷ []) (phrase nil)
+empty-branch = branch {k = 0} refl none
+
 empty-phrases : EmptyPhrases
-empty-phrases = (branch {k = 0} refl none, λ p x. elim x [ ])
+empty-phrases = (empty-branch, λ p x. elim x [ ])
 
 pub phrases : OfPhrases
 phrases = record {
