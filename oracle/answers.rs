@@ -4,9 +4,10 @@
 //!   turn_meaning   what a turn means under a thread code
 
 use crate::blocks::{set_down, step, strict, write_list, Step, StrictRefusal};
+use crate::entries::{read_entry, write_entry, Entry, EntryRefusal};
 use crate::frames::{hex, Frame, Item};
 use crate::listing::listing;
-use crate::numbers::{length, power, read, write, Refusal, RefusalAt, Rule, THREAD};
+use crate::numbers::{at, length, power, read, write, Refusal, RefusalAt, Rule, ENTRY, THREAD};
 use crate::phrases::copy_leaves;
 use crate::slips::{bits_of, body_length, lies_in_range, read_slip, write_slip, Setting};
 use std::cmp::Ordering;
@@ -39,6 +40,8 @@ pub fn answer(item: &Item) -> String {
         20 => slip_write_line(frame),
         21 => question_line(frame),
         22 => leaves_line(frame),
+        23 => entry_line(frame),
+        24 => entry_write_line(frame),
         _ => UNKNOWN.to_string(),
     }
 }
@@ -129,11 +132,14 @@ fn list_of<'a>(frame: &Frame<'a>) -> Option<(Vec<u64>, &'a [u8])> {
         return None;
     }
     let (numbers, behind) = frame.bytes.split_at(8 * frame.b as usize);
-    let list = numbers
-        .chunks(8)
-        .map(|eight| u64::from_le_bytes(eight.try_into().unwrap()))
-        .collect();
-    Some((list, behind))
+    Some((numbers_of(numbers), behind))
+}
+
+/// Eight bytes to each, the low byte first.
+fn numbers_of(bytes: &[u8]) -> Vec<u64> {
+    let each = bytes.chunks(8);
+    each.map(|eight| u64::from_le_bytes(eight.try_into().unwrap()))
+        .collect()
 }
 
 fn list_line(frame: &Frame) -> String {
@@ -224,7 +230,34 @@ fn leaves_line(frame: &Frame) -> String {
     slice_line(frame, |slice| count_or_refused(copy_leaves(&list, slice)))
 }
 
-/// The number that a frame's a stands for, if the width has it: signed in two's complement.
+fn entry_line(frame: &Frame) -> String {
+    match read_entry(frame.bytes, frame.a) {
+        Ok((said, end)) => {
+            let (segment, sentence, turn) = (said.segment, said.sentence, said.turn);
+            format!("entry {segment} {sentence} {turn} {end}")
+        }
+        Err(EntryRefusal::Entry(end)) => refused_at(at(ENTRY, end as u64)),
+        Err(EntryRefusal::Other(refusal)) => format!("refused {refusal}"),
+    }
+}
+
+/// The language is not looked at.
+fn entry_write_line(frame: &Frame) -> String {
+    let Some((numbers, rest)) = frame.bytes.split_at_checked(32) else {
+        return UNKNOWN.to_string();
+    };
+    let numbers = numbers_of(numbers);
+    let entry = Entry {
+        segment: numbers[0],
+        sentence: numbers[1],
+        turn: number_of(I64, numbers[3]).unwrap() as i64,
+    };
+    let mut buffer = rest.to_vec();
+    let written = write_entry(&entry, &mut buffer, frame.a);
+    format!("{} {}", count_or_refused(written), hex(&buffer))
+}
+
+/// The number that eight bytes of a frame stand for, if the width has it: signed in two's complement.
 fn number_of(rule: Rule, a: u64) -> Option<i128> {
     let a = a as i128;
     let v = if rule == I64 && a >= power(63) {

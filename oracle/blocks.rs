@@ -6,6 +6,7 @@
 //!   Step          what a step says
 //!   meaning       what is said of a group or a tail by a rule
 //!   StrictRefusal   a refusal of strict reading, with a place or without
+//!   test_7_and_4    what readers of a block at a place begin with
 //!   step, set_down, strict, write_list   the block desk
 //!
 //! A block is taken apart whole, and the part that begins at the place is looked up: it is held
@@ -84,8 +85,8 @@ pub fn meaning(rule: Rule, block: &[u8], part: &Part) -> Step {
     }
 }
 
-/// The tests that a step and set-down begin with.
-fn test_7_and_4(block: &[u8], place: u64) -> Result<(), Refusal> {
+/// The tests that a step, set-down and the reader of entries begin with.
+pub fn test_7_and_4(block: &[u8], place: u64) -> Result<(), Refusal> {
     if block.len() > MOST_OF_BLOCK {
         return Err(TOO_LONG);
     }

@@ -1,19 +1,20 @@
 //! The cases: first those written down by hand, then each limit from both sides, then random ones;
 //! after those for numbers, here, those for blocks, lists and turns from block_cases.rs, more for
-//! strict reading from strict_cases.rs, those for setting slips from slip_cases.rs, and those for
-//! phrases inside phrases from phrase_cases.rs.
+//! strict reading from strict_cases.rs, those for setting slips from slip_cases.rs, those for phrases
+//! inside phrases from phrase_cases.rs, and those for entries from entry_cases.rs.
 //!
 //!   committed   the cases that the repository holds
 //!   large       these, the long ones that are written down by hand, all pairs of bytes, more turns,
 //!               long frames and blocks, 1,470,000 random cases more, and more for strict reading,
-//!               for setting slips and for phrases inside phrases
+//!               for setting slips, for phrases inside phrases and for entries
 //!
 //! Nothing here says what an answer should be. The same bytes come out on every machine.
 
 use crate::block_cases;
 use crate::blocks::MOST_OF_BLOCK;
+use crate::entry_cases;
 use crate::frames::{put, MOST_BYTES};
-use crate::known::{put_known, put_long, put_phrases, put_slips, put_strict};
+use crate::known::{put_entries, put_known, put_long, put_phrases, put_slips, put_strict};
 use crate::numbers::{form, length, power, Rule, GROWTH};
 use crate::phrase_cases;
 use crate::random::Random;
@@ -62,6 +63,7 @@ pub fn large() -> Vec<u8> {
     strict_cases::more(&mut input);
     slip_cases::more(&mut input);
     phrase_cases::more(&mut input);
+    entry_cases::more(&mut input);
     put(&mut input, 1, 0, 0, &vec![1; MOST_BYTES as usize + 1]);
     put(&mut input, 1, 0, 0, &[1]);
     input
@@ -90,6 +92,8 @@ fn whole(input: &mut Vec<u8>) {
     slip_cases::whole(input);
     put_phrases(input);
     phrase_cases::whole(input);
+    put_entries(input);
+    entry_cases::whole(input);
 }
 
 // ---- reading

@@ -1,5 +1,6 @@
-//! Answers written down by hand from document 01, from document 02 (#101, #104, #105, #108, #110)
-//! and from the examples of DWARF 5, so that no expected output rests on this program's word alone.
+//! Answers written down by hand from document 01, from document 02 (#101, #102, #104, #105, #108,
+//! #110) and from the examples of DWARF 5, so that no expected output rests on this program's word
+//! alone.
 //!
 //!   READ, WRITE, LENGTH   the cases for numbers, each with its answer line
 //!   BLOCK, LIST, TURN     those for blocks, lists and turns
@@ -7,11 +8,14 @@
 //!   STRICT                those for strict reading that may be done in parts
 //!   SLIP, SLIP_WRITE, QUESTION, SLIP_FRAME   those for setting slips
 //!   PHRASE, PHRASE_FRAME, LIMIT_PHRASE, LONG_PHRASE   those for phrases inside phrases
+//!   ENTRY, ENTRY_WRITE, ENTRY_FRAME, LIMIT_ENTRY, LONG_ENTRY   those for entries opened by a mark
+//!   ENTRY_BLOCK, ENTRY_TEXT   what the plain step, strict reading and the listing say of a mark
 //!   put_limits            those with a block or list as long as it may be, or longer
 //!   put_known             all of these as frames
 //!   put_strict            those of STRICT as frames
 //!   put_slips             those for setting slips as frames
 //!   put_phrases           those for phrases inside phrases as frames
+//!   put_entries           those for entries as frames
 //!   put_long              those of the large run alone
 //!   LISTING               the named inputs for the listing, each with its text
 //!   TEXT                  other blocks, each with the text of its listing
@@ -53,6 +57,13 @@ type AnyFrame = (u8, u64, u64, &'static str, &'static str);
 type Phrase = (u64, &'static [u64], &'static str);
 /// (size of the slice, so many times these numbers, so many times this text of the answer)
 type LongPhrase = (u64, &'static [(usize, &'static [u64])], &'static [Times]);
+
+/// (place, bytes in hex, answer)
+type Entry = (u64, &'static str, &'static str);
+/// (place, segment, sentence, turn, buffer in hex, answer)
+type EntryWrite = (u64, u64, u64, i64, &'static str, &'static str);
+/// (place, so many times these bytes in hex, answer)
+type LongEntry = (u64, &'static [Times], &'static str);
 
 /// The 17 bytes of document 01's listing, and the same with the two bytes at 3 mended.
 const DOCUMENT: &str = "00 80 01 80 00 ff ff ff ff ff ff ff ff ff 02 05 83";
@@ -943,6 +954,351 @@ const LONG_PHRASE: &[LongPhrase] = &[
     (65536, &[(1, &[5, 10])], &[(1, "refused 13"), (65536, LEFT)]),
 ];
 
+/// Document 02, #102. For the reader of entries: op 23.
+#[rustfmt::skip]
+const ENTRY: &[Entry] = &[
+    // "Mark, segment (u64), sentence (u64), turn (i64)", in this order.
+    (0, "80 00 01 02 03", "entry 1 2 3 5"),
+    (0, "80 00 02 01 03", "entry 2 1 3 5"),
+    (0, "80 00 03 01 02", "entry 3 1 2 5"),
+    (0, "80 00 00 00 00", "entry 0 0 0 5"),
+    (0, "80 00 b9 64 80 01 05", "entry 12857 128 5 7"),
+    (0, "80 00 05 b9 64 ff 00", "entry 5 12857 127 7"),
+    // The turn alone is signed: "treating a signed 40 (hex) as 64; it is -64".
+    (0, "80 00 40 40 40", "entry 64 64 -64 5"),
+    (0, "80 00 3f 3f 3f", "entry 63 63 63 5"),
+    (0, "80 00 7f 7f 7f", "entry 127 127 -1 5"),
+    (0, "80 00 7e 7e 7e", "entry 126 126 -2 5"),
+    (0, "80 00 01 02 c0 00", "entry 1 2 64 6"),
+    (0, "80 00 01 02 bf 7f", "entry 1 2 -65 6"),
+    (0, "80 00 01 02 80 01", "entry 1 2 128 6"),
+    (0, "80 00 01 02 80 7f", "entry 1 2 -128 6"),
+    (0, "80 00 01 02 81 7f", "entry 1 2 -127 6"),
+    (0, "80 00 01 02 ff 7e", "entry 1 2 -129 6"),
+    // What is a number by one rule and not by the other.
+    (0, "80 00 ff 7f 01 02", "entry 16383 1 2 6"),
+    (0, "80 00 01 ff 7f 02", "entry 1 16383 2 6"),
+    (0, "80 00 01 02 ff 7f", "refused 10 6"),
+    (0, "80 00 ff 00 01 02", "refused 10 6"),
+    (0, "80 00 01 ff 00 02", "refused 10 6"),
+    (0, "80 00 c0 00 01 02", "refused 10 6"),
+    (0, "80 00 01 c0 00 02", "refused 10 6"),
+    (0, "80 00 01 02 c0 7f", "refused 10 6"),
+    (0, "80 00 01 02 bf 00", "refused 10 6"),
+    (0, "80 00 c0 7f bf 7f 02", "entry 16320 16319 2 7"),
+    // The ends of each width, and the longest entry.
+    (0, "80 00 ff ff ff ff ff ff ff ff ff 01 05 06", "entry 18446744073709551615 5 6 14"),
+    (0, "80 00 05 ff ff ff ff ff ff ff ff ff 01 06", "entry 5 18446744073709551615 6 14"),
+    (0, "80 00 05 06 ff ff ff ff ff ff ff ff ff 00", "entry 5 6 9223372036854775807 14"),
+    (0, "80 00 05 06 80 80 80 80 80 80 80 80 80 7f", "entry 5 6 -9223372036854775808 14"),
+    (0, "80 00 80 80 80 80 80 80 80 80 80 01 05 06", "entry 9223372036854775808 5 6 14"),
+    (0, "80 00 05 80 80 80 80 80 80 80 80 80 01 06", "entry 5 9223372036854775808 6 14"),
+    (0, "80 00 ff ff ff ff ff ff ff ff ff 01 ff ff ff ff ff ff ff ff ff 01 80 80 80 80 80 80 80 80 80 7f", "entry 18446744073709551615 18446744073709551615 -9223372036854775808 32"),
+    // Too large, at ten bytes and above.
+    (0, "80 00 ff ff ff ff ff ff ff ff ff 02 05 06", "refused 10 14"),
+    (0, "80 00 05 ff ff ff ff ff ff ff ff ff 02 06", "refused 10 14"),
+    (0, "80 00 80 80 80 80 80 80 80 80 80 7f 05 06", "refused 10 14"),
+    (0, "80 00 05 06 80 80 80 80 80 80 80 80 80 01", "refused 10 14"),
+    (0, "80 00 05 06 ff ff ff ff ff ff ff ff ff 7e", "refused 10 14"),
+    (0, "80 00 80 80 80 80 80 80 80 80 80 80 01 05 06", "refused 10 15"),
+    (0, "80 00 05 06 80 80 80 80 80 80 80 80 80 80 00", "refused 10 15"),
+    // One byte too many in a group, which is not the shortest form then.
+    (0, "80 00 81 00 02 03", "refused 10 6"),
+    (0, "80 00 01 82 00 03", "refused 10 6"),
+    (0, "80 00 01 02 83 00", "refused 10 6"),
+    (0, "80 00 01 02 fd 7f", "refused 10 6"),
+    (0, "80 00 80 80 80 80 80 80 80 80 80 00 05 06", "refused 10 14"),
+    (0, "80 00 05 06 ff ff ff ff ff ff ff ff ff 7f", "refused 10 14"),
+    // Fewer groups than three, and more: "the three groups all read and nothing else is in it".
+    (0, "80 00", "refused 10 2"),
+    (0, "80 00 01", "refused 10 3"),
+    (0, "80 00 01 02", "refused 10 4"),
+    (0, "80 00 81 02 03", "refused 10 5"),
+    (0, "80 00 01 02 03 04", "refused 10 6"),
+    (0, "80 00 01 02 03 00", "refused 10 6"),
+    (0, "80 00 00 01 02 03", "refused 10 6"),
+    (0, "80 00 01 02 03 80 01", "refused 10 7"),
+    (0, "80 00 01 02 03 81 00", "refused 10 7"),
+    (0, "80 00 01 02 03 04 05 06", "refused 10 8"),
+    // "No tail either", behind each group, of one byte, of ten and of more.
+    (0, "80 00 80", "refused 10 3"),
+    (0, "80 00 01 80", "refused 10 4"),
+    (0, "80 00 01 02 80", "refused 10 5"),
+    (0, "80 00 01 02 83", "refused 10 5"),
+    (0, "80 00 01 02 03 80", "refused 10 6"),
+    (0, "80 00 01 02 03 ff", "refused 10 6"),
+    (0, "80 00 01 02 03 ff ff", "refused 10 7"),
+    (0, "80 00 01 02 03 80 80 80 80 80 80 80 80 80", "refused 10 14"),
+    (0, "80 00 01 02 03 80 80 80 80 80 80 80 80 80 80", "refused 10 15"),
+    (0, "80 00 01 02 03 80 80 80 80 80 80 80 80 80 80 80 80", "refused 10 17"),
+    (0, "80 00 80 80 80 80 80 80 80 80 80 80", "refused 10 12"),
+    // "An entry runs to the next mark group": it ends where that begins.
+    (0, "80 00 01 02 03 80 00", "entry 1 2 3 5"),
+    (0, "80 00 01 02 03 80 00 04 05 06", "entry 1 2 3 5"),
+    (0, "80 00 01 02 03 80 00 80", "entry 1 2 3 5"),
+    (0, "80 00 01 02 03 04 80 00", "refused 10 6"),
+    (0, "80 00 01 02 80 00 03", "refused 10 4"),
+    (0, "80 00 01 80 00 02 03", "refused 10 3"),
+    (0, "80 00 80 00 01 02 03", "refused 10 2"),
+    (0, "80 00 01 02 80 00 04 05 06", "refused 10 4"),
+    // "The least mark at or after its place": at each place of two entries, at the end and past it.
+    (1, "80 00 01 02 03 80 00 04 05 06", "entry 4 5 6 10"),
+    (2, "80 00 01 02 03 80 00 04 05 06", "entry 4 5 6 10"),
+    (4, "80 00 01 02 03 80 00 04 05 06", "entry 4 5 6 10"),
+    (5, "80 00 01 02 03 80 00 04 05 06", "entry 4 5 6 10"),
+    (6, "80 00 01 02 03 80 00 04 05 06", "refused 8"),
+    (9, "80 00 01 02 03 80 00 04 05 06", "refused 8"),
+    (10, "80 00 01 02 03 80 00 04 05 06", "refused 8"),
+    (11, "80 00 01 02 03 80 00 04 05 06", "refused 4"),
+    (1, "80 00 01 02 03", "refused 8"),
+    (1, "80 00 01 02 03 80 00 04 05", "refused 10 9"),
+    (1, "80 00 01 02 80 00 04 05 06 80 00 07 08 09", "entry 4 5 6 9"),
+    (5, "80 00 01 02 80 00 04 05 06 80 00 07 08 09", "entry 7 8 9 14"),
+    // Marks back to back, and one at the very end.
+    (0, "80 00 80 00", "refused 10 2"),
+    (1, "80 00 80 00", "refused 10 4"),
+    (2, "80 00 80 00", "refused 10 4"),
+    (3, "80 00 80 00", "refused 8"),
+    (0, "80 00 80 00 80 00", "refused 10 2"),
+    (2, "80 00 80 00 80 00", "refused 10 4"),
+    (3, "80 00 80 00 80 00", "refused 10 6"),
+    (1, "80 00 80 00 01 02 03", "entry 1 2 3 7"),
+    (5, "80 00 01 02 03 80 00", "refused 10 7"),
+    (6, "80 00 01 02 03 80 00", "refused 8"),
+    (7, "80 00 01 02 03 80 00", "refused 8"),
+    // Groups before the first mark are no entry's; a place in the middle of one is good.
+    (0, "05 80 00 01 02 03", "entry 1 2 3 6"),
+    (1, "05 80 00 01 02 03", "entry 1 2 3 6"),
+    (2, "05 80 00 01 02 03", "refused 8"),
+    (0, "00 80 00 01 02 03", "entry 1 2 3 6"),
+    (0, "7f 80 00 01 02 03", "entry 1 2 3 6"),
+    (0, "80 01 80 00 01 02 03", "entry 1 2 3 7"),
+    (1, "80 01 80 00 01 02 03", "entry 1 2 3 7"),
+    (0, "01 02 03 04 05 80 00 07 08 09 80 00", "entry 7 8 9 10"),
+    // "Mark group": inside a longer group 80 00 is none, wherever the place is.
+    (0, "80 80 00 01 02 03", "refused 8"),
+    (1, "80 80 00 01 02 03", "refused 8"),
+    (0, "81 80 00 01 02 03", "refused 8"),
+    (1, "81 80 00 01 02 03", "refused 8"),
+    (2, "81 80 00 01 02 03", "refused 8"),
+    (1, "ff 80 00", "refused 8"),
+    (1, "05 ff 80 80 00 01 02 03", "refused 8"),
+    (3, "05 ff 80 80 00 01 02 03", "refused 8"),
+    (9, "80 80 80 80 80 80 80 80 80 80 00 01 02 03", "refused 8"),
+    (1, "81 80 00 80 00 01 02 03", "entry 1 2 3 8"),
+    // Nor does such a group end an entry: it is one of its groups.
+    (0, "80 00 01 02 03 80 80 00", "refused 10 8"),
+    (0, "80 00 01 02 03 81 80 00 04 05 06", "refused 10 11"),
+    (0, "80 00 01 02 83 80 00 04 05 06", "refused 10 10"),
+    (3, "80 00 01 02 83 80 00 04 05 06", "refused 8"),
+    (0, "80 00 01 81 80 00 03", "refused 10 7"),
+    (0, "80 00 01 02 03 80 80 00 80 00 04 05 06", "refused 10 8"),
+    (1, "80 00 01 02 03 80 80 00 80 00 04 05 06", "entry 4 5 6 13"),
+    // What looks nearly like a mark.
+    (0, "80 01 01 02 03", "refused 8"),
+    (0, "81 00 01 02 03", "refused 8"),
+    (0, "00 80 01 02 03", "refused 8"),
+    (0, "00 00 01 02 03", "refused 8"),
+    (0, "80 80 01 02 03", "refused 8"),
+    (0, "c0 00 01 02 03", "refused 8"),
+    (0, "80 7f 01 02 03", "refused 8"),
+    (0, "80", "refused 8"),
+    (0, "00", "refused 8"),
+    (2, "01 02 80", "refused 8"),
+    (0, "80 00 01 02 80 01", "entry 1 2 128 6"),
+    // "Tests 7, 4, then": no byte at all, the length, which is not past the end, and past it.
+    (0, "", "refused 8"),
+    (1, "", "refused 4"),
+    (5, "80 00 01 02 03", "refused 8"),
+    (6, "80 00 01 02 03", "refused 4"),
+    (256, "80 00 01 02 03", "refused 4"),
+    (65536, "80 00 01 02 03", "refused 4"),
+    (4294967296, "80 00 01 02 03", "refused 4"),
+    (9223372036854775808, "80 00 01 02 03", "refused 4"),
+    (18446744073709551615, "80 00 01 02 03", "refused 4"),
+    (18446744073709551615, "", "refused 4"),
+    // Damage: old, then a number lost, then two bytes in place of one, then a mark's 80 lost.
+    (0, "80 00 01 02 03 80 00 81 01 05 06 80 00 07 08 09", "entry 1 2 3 5"),
+    (5, "80 00 01 02 03 80 00 81 01 05 06 80 00 07 08 09", "entry 129 5 6 11"),
+    (11, "80 00 01 02 03 80 00 81 01 05 06 80 00 07 08 09", "entry 7 8 9 16"),
+    (0, "80 00 01 02 03 80 00 81 01 06 80 00 07 08 09", "entry 1 2 3 5"),
+    (5, "80 00 01 02 03 80 00 81 01 06 80 00 07 08 09", "refused 10 10"),
+    (10, "80 00 01 02 03 80 00 81 01 06 80 00 07 08 09", "entry 7 8 9 15"),
+    (5, "80 00 01 02 03 80 00 81 01 04 05 06 80 00 07 08 09", "refused 10 12"),
+    (12, "80 00 01 02 03 80 00 81 01 04 05 06 80 00 07 08 09", "entry 7 8 9 17"),
+    (0, "80 00 01 02 03 00 81 01 05 06 80 00 07 08 09", "refused 10 10"),
+    (1, "80 00 01 02 03 00 81 01 05 06 80 00 07 08 09", "entry 7 8 9 15"),
+];
+
+/// For the writer: op 24.
+#[rustfmt::skip]
+const ENTRY_WRITE: &[EntryWrite] = &[
+    // "Mark, segment, sentence, turn", and the count of bytes.
+    (0, 1, 2, 3, "a5 5a 33 cc 96", "count 5 8000010203"),
+    (0, 2, 1, 3, "a5 5a 33 cc 96", "count 5 8000020103"),
+    (0, 3, 1, 2, "a5 5a 33 cc 96", "count 5 8000030102"),
+    (0, 0, 0, 0, "a5 5a 33 cc 96", "count 5 8000000000"),
+    (0, 12857, 128, 5, "a5 5a 33 cc 96 69 0f", "count 7 8000b964800105"),
+    (0, 5, 12857, 127, "a5 5a 33 cc 96 69 0f", "count 7 800005b964ff00"),
+    // The turn alone is signed.
+    (0, 64, 64, -64, "a5 5a 33 cc 96", "count 5 8000404040"),
+    (0, 63, 63, 63, "a5 5a 33 cc 96", "count 5 80003f3f3f"),
+    (0, 127, 127, -1, "a5 5a 33 cc 96", "count 5 80007f7f7f"),
+    (0, 1, 2, -2, "a5 5a 33 cc 96", "count 5 800001027e"),
+    (0, 64, 127, 64, "a5 5a 33 cc 96 69", "count 6 8000407fc000"),
+    (0, 1, 2, 127, "a5 5a 33 cc 96 69", "count 6 80000102ff00"),
+    (0, 1, 2, 128, "a5 5a 33 cc 96 69", "count 6 800001028001"),
+    (0, 1, 2, -65, "a5 5a 33 cc 96 69", "count 6 80000102bf7f"),
+    (0, 1, 2, -128, "a5 5a 33 cc 96 69", "count 6 80000102807f"),
+    (0, 1, 2, -129, "a5 5a 33 cc 96 69", "count 6 80000102ff7e"),
+    (0, 16383, 16320, 2, "a5 5a 33 cc 96 69 0f", "count 7 8000ff7fc07f02"),
+    // The ends of each width, and the longest entry.
+    (0, 18446744073709551615, 5, 6, "a5 5a 33 cc 96 69 0f f0 3c c3 a5 5a 33 cc", "count 14 8000ffffffffffffffffff010506"),
+    (0, 5, 18446744073709551615, 6, "a5 5a 33 cc 96 69 0f f0 3c c3 a5 5a 33 cc", "count 14 800005ffffffffffffffffff0106"),
+    (0, 5, 6, 9223372036854775807, "a5 5a 33 cc 96 69 0f f0 3c c3 a5 5a 33 cc", "count 14 80000506ffffffffffffffffff00"),
+    (0, 5, 6, -9223372036854775808, "a5 5a 33 cc 96 69 0f f0 3c c3 a5 5a 33 cc", "count 14 800005068080808080808080807f"),
+    (0, 9223372036854775808, 5, 6, "a5 5a 33 cc 96 69 0f f0 3c c3 a5 5a 33 cc", "count 14 8000808080808080808080010506"),
+    (0, 18446744073709551615, 18446744073709551615, -9223372036854775808, "a5 5a 33 cc 96 69 0f f0 a5 5a 33 cc 96 69 0f f0 a5 5a 33 cc 96 69 0f f0 a5 5a 33 cc 96 69 0f f0", "count 32 8000ffffffffffffffffff01ffffffffffffffffff018080808080808080807f"),
+    (0, 18446744073709551615, 18446744073709551615, -9223372036854775808, "a5 5a 33 cc 96 69 0f f0 a5 5a 33 cc 96 69 0f f0 a5 5a 33 cc 96 69 0f f0 a5 5a 33 cc 96 69 0f", "refused 5 a55a33cc96690ff0a55a33cc96690ff0a55a33cc96690ff0a55a33cc96690f"),
+    // The bytes at the place and all else kept; the count and not the end place.
+    (0, 1, 2, 3, "a5 5a 33 cc 96 69 0f", "count 5 8000010203690f"),
+    (1, 1, 2, 3, "a5 5a 33 cc 96 69 0f", "count 5 a580000102030f"),
+    (2, 1, 2, 3, "a5 5a 33 cc 96 69 0f", "count 5 a55a8000010203"),
+    (1, 300, 2, 3, "a5 5a 33 cc 96 69 0f f0", "count 6 a58000ac020203f0"),
+    // "Place + bytes needed > buffer length": one byte short, the mark alone, less, and no room at all.
+    (3, 1, 2, 3, "a5 5a 33 cc 96 69 0f", "refused 5 a55a33cc96690f"),
+    (5, 1, 2, 3, "a5 5a 33 cc 96 69 0f", "refused 5 a55a33cc96690f"),
+    (6, 1, 2, 3, "a5 5a 33 cc 96 69 0f", "refused 5 a55a33cc96690f"),
+    (7, 1, 2, 3, "a5 5a 33 cc 96 69 0f", "refused 5 a55a33cc96690f"),
+    (0, 1, 2, 3, "a5 5a 33 cc", "refused 5 a55a33cc"),
+    (0, 1, 2, 3, "a5 5a 33", "refused 5 a55a33"),
+    (0, 1, 2, 3, "a5 5a", "refused 5 a55a"),
+    (0, 1, 2, 3, "a5", "refused 5 a5"),
+    (0, 1, 2, 3, "", "refused 5 -"),
+    (0, 128, 2, 3, "a5 5a 33 cc 96", "refused 5 a55a33cc96"),
+    (0, 1, 128, 3, "a5 5a 33 cc 96", "refused 5 a55a33cc96"),
+    (0, 1, 2, 64, "a5 5a 33 cc 96", "refused 5 a55a33cc96"),
+    (1, 1, 2, 64, "a5 5a 33 cc 96 69", "refused 5 a55a33cc9669"),
+    // Past the end; and where place + bytes needed is more than 64 bits hold.
+    (8, 1, 2, 3, "a5 5a 33 cc 96 69 0f", "refused 5 a55a33cc96690f"),
+    (1, 1, 2, 3, "", "refused 5 -"),
+    (256, 1, 2, 3, "a5 5a 33 cc 96 69 0f", "refused 5 a55a33cc96690f"),
+    (65536, 1, 2, 3, "a5 5a 33 cc 96 69 0f", "refused 5 a55a33cc96690f"),
+    (4294967296, 1, 2, 3, "a5 5a 33 cc 96 69 0f", "refused 5 a55a33cc96690f"),
+    (18446744073709551611, 1, 2, 3, "a5 5a 33 cc 96 69 0f", "refused 5 a55a33cc96690f"),
+    (18446744073709551614, 1, 2, 3, "a5 5a 33 cc 96 69 0f", "refused 5 a55a33cc96690f"),
+    (18446744073709551615, 1, 2, 3, "a5 5a 33 cc 96 69 0f", "refused 5 a55a33cc96690f"),
+    (18446744073709551615, 1, 2, 3, "", "refused 5 -"),
+    // What is there already is not looked at, be it a mark.
+    (2, 1, 2, 3, "80 00 80 00 80 00 80 00 80 00", "count 5 80008000010203008000"),
+    (1, 1, 2, 3, "80 80 80 80 80 80 80 80", "count 5 8080000102038080"),
+];
+
+/// Fewer than 32 bytes, with a place that is good and one that is not; just 32, and no buffer; the
+/// language, which is not looked at, and the low byte first; fields that an op doesn't ask for.
+#[rustfmt::skip]
+const ENTRY_FRAME: &[AnyFrame] = &[
+    (24, 0, 0, "", "unknown"),
+    (24, 18446744073709551615, 0, "", "unknown"),
+    (24, 0, 0, "01 00 00 00 00 00 00 00 02 00 00 00 00 00 00 00 00 00 00 00 00 00 00 00 03 00 00 00 00 00 00", "unknown"),
+    (24, 9, 0, "01 00 00 00 00 00 00 00 02 00 00 00 00 00 00 00 00 00 00 00 00 00 00 00", "unknown"),
+    (24, 0, 0, "01 00 00 00 00 00 00 00 02 00 00 00 00 00 00 00 00 00 00 00 00 00 00 00 03 00 00 00 00 00 00 00", "refused 5 -"),
+    (24, 1, 0, "01 00 00 00 00 00 00 00 02 00 00 00 00 00 00 00 00 00 00 00 00 00 00 00 03 00 00 00 00 00 00 00 a5 5a 33 cc 96 69", "count 5 a58000010203"),
+    (24, 0, 7, "01 00 00 00 00 00 00 00 02 00 00 00 00 00 00 00 09 00 00 00 00 00 00 00 03 00 00 00 00 00 00 00 a5 5a 33 cc 96 69", "count 5 800001020369"),
+    (24, 0, 18446744073709551615, "01 00 00 00 00 00 00 00 02 00 00 00 00 00 00 00 ff ff ff ff ff ff ff ff 03 00 00 00 00 00 00 00 a5 5a 33 cc 96", "count 5 8000010203"),
+    (24, 0, 0, "02 01 00 00 00 00 00 00 04 03 00 00 00 00 00 00 00 00 00 00 00 00 00 00 fe ff ff ff ff ff ff ff a5 5a 33 cc 96 69 0f", "count 7 8000820284067e"),
+    (24, 0, 0, "01 00 00 00 00 00 00 00 02 00 00 00 00 00 00 00 00 00 00 00 00 00 00 00 00 00 00 00 00 00 00 80 a5 5a 33 cc 96 69 0f f0 3c c3 a5 5a 33 cc", "count 14 800001028080808080808080807f"),
+    (23, 0, 18446744073709551615, "80 00 01 02 03", "entry 1 2 3 5"),
+    (23, 1, 5, "80 00 01 02 03", "refused 8"),
+];
+
+/// "The plain step and the listing still call 80 00 NotShortest", and so does strict reading.
+#[rustfmt::skip]
+const ENTRY_BLOCK: &[Read] = &[
+    (&[12, 13], 0, "80 00 01 02 03", "gap 3 2 2 1"),
+    (&[12, 13], 1, "80 00 01 02 03", "refused 6"),
+    (&[12, 13], 2, "80 00 01 02 03", "number 1 1 3"),
+    (&[12, 13], 5, "80 00 01 02 03", "finished 5"),
+    (&[12, 13], 5, "80 00 01 02 03 80 00", "gap 3 2 7 6"),
+    (&[12, 13], 3, "05 80 00 80 00", "gap 3 2 5 4"),
+    (&[12, 13], 0, "80 80 00", "gap 3 3 3 2"),
+    (&[14], 1, "80 00 80 00 01", "start 2"),
+    (&[15], 4, "80 00 01 02 03", "refused 3 1 7777777777777777777 7777777777777777777 7777777777777777777 7777777777777777777"),
+    (&[15], 0, "01 02 03 80 00", "refused 3 4"),
+];
+
+/// The same in the text of a listing.
+const ENTRY_TEXT: &[(&str, &str)] = &[(
+    "80 00 01 02 40 80 00 80 00 05 81 80 00",
+    "place what value
+0 not-shortest 2
+2 number 1
+3 number 2
+4 number 64
+5 not-shortest 2
+7 not-shortest 2
+9 number 5
+10 not-shortest 3
+",
+)];
+
+/// Blocks at the limit. The most bytes: marks at both ends, and an entry that is the last. One byte more:
+/// good entries alone, and a place past the end.
+#[rustfmt::skip]
+const LIMIT_ENTRY: &[LongEntry] = &[
+    (0, &[(1, "80 00"), (65532, "05"), (1, "80 00")], "refused 10 65534"),
+    (1, &[(1, "80 00"), (65529, "05"), (1, "80 00 01 02 03")], "entry 1 2 3 65536"),
+    (0, &[(2, "80 00 01 02 83 01"), (13105, "80 00 01 02 03")], "refused 7"),
+    (65538, &[(1, "80 00 01 02 03"), (65532, "05")], "refused 7"),
+];
+
+/// Those of the large run alone.
+#[rustfmt::skip]
+const LONG_ENTRY: &[LongEntry] = &[
+    // The most bytes and the mark at the very start, with the place there and behind it.
+    (0, &[(1, "80 00"), (65534, "05")], "refused 10 65536"),
+    (0, &[(1, "80 00 01 02 03"), (65529, "05"), (1, "80 00")], "refused 10 65534"),
+    (0, &[(1, "80 00 01 02 03"), (1, "80 00"), (65529, "05")], "entry 1 2 3 5"),
+    (1, &[(1, "80 00"), (65534, "05")], "refused 8"),
+    (65535, &[(1, "80 00"), (65534, "05")], "refused 8"),
+    (65536, &[(1, "80 00"), (65534, "05")], "refused 8"),
+    (65537, &[(1, "80 00"), (65534, "05")], "refused 4"),
+    // At the very end: the last two bytes, and an 80 that is the last.
+    (0, &[(65534, "05"), (1, "80 00")], "refused 10 65536"),
+    (65534, &[(65534, "05"), (1, "80 00")], "refused 10 65536"),
+    (65535, &[(65534, "05"), (1, "80 00")], "refused 8"),
+    (0, &[(65535, "05"), (1, "80")], "refused 8"),
+    (65535, &[(65535, "05"), (1, "80")], "refused 8"),
+    // An entry that is the last, from each end; with a tail; without its turn.
+    (0, &[(65531, "05"), (1, "80 00 01 02 03")], "entry 1 2 3 65536"),
+    (65531, &[(65531, "05"), (1, "80 00 01 02 03")], "entry 1 2 3 65536"),
+    (65532, &[(65531, "05"), (1, "80 00 01 02 03")], "refused 8"),
+    (0, &[(65530, "05"), (1, "80 00 01 02 03 80")], "refused 10 65536"),
+    (0, &[(65532, "05"), (1, "80 00 01 02")], "refused 10 65536"),
+    // In the middle, and before a mark in the middle.
+    (0, &[(32768, "05"), (1, "80 00 01 02 03 80 00"), (32761, "05")], "entry 1 2 3 32773"),
+    (32769, &[(32768, "05"), (1, "80 00 01 02 03 80 00"), (32761, "05")], "refused 10 65536"),
+    (0, &[(1, "80 00"), (32766, "05"), (1, "80 00"), (32766, "05")], "refused 10 32768"),
+    // A tail that is all but a mark; a group that hides the last two bytes; marks alone.
+    (0, &[(1, "80 00"), (65534, "80")], "refused 10 65536"),
+    (0, &[(65535, "80"), (1, "00")], "refused 8"),
+    (65534, &[(65535, "80"), (1, "00")], "refused 8"),
+    (0, &[(32768, "80 00")], "refused 10 2"),
+    (65533, &[(32768, "80 00")], "refused 10 65536"),
+    (65535, &[(32768, "80 00")], "refused 8"),
+    // One byte less, and one more: "tests 7, 4, then".
+    (0, &[(65530, "05"), (1, "80 00 01 02 03")], "entry 1 2 3 65535"),
+    (65535, &[(65530, "05"), (1, "80 00 01 02 03")], "refused 8"),
+    (65536, &[(65530, "05"), (1, "80 00 01 02 03")], "refused 4"),
+    (0, &[(65532, "05"), (1, "80 00 01 02 03")], "refused 7"),
+    (0, &[(1, "80 00 01 02 03 80 00"), (65530, "05")], "refused 7"),
+    (0, &[(65537, "05")], "refused 7"),
+    (65537, &[(65537, "05")], "refused 7"),
+    (65538, &[(65537, "05")], "refused 7"),
+    (18446744073709551615, &[(65537, "05")], "refused 7"),
+    (0, &[(60000, "80 00 01 02 03")], "refused 7"),
+];
+
 #[rustfmt::skip]
 const LIST: &[List] = &[
     (0, &[0, 127, 128, 12857, 18446744073709551615], "a5 5a 33 cc 96 69 0f f0 3c c3 a5 5a 33 cc 96 69", "count 16 007f8001b964ffffffffffffffffff01"),
@@ -1117,10 +1473,7 @@ pub fn put_known(input: &mut Vec<u8>) -> Vec<String> {
 pub fn put_strict(input: &mut Vec<u8>) -> Vec<String> {
     let mut lines = Vec::new();
     for (size, block, line) in STRICT {
-        let bytes = block
-            .iter()
-            .flat_map(|(times, hex)| bytes_of(hex).repeat(*times));
-        put(input, 15, *size, 0, &bytes.collect::<Vec<u8>>());
+        put(input, 15, *size, 0, &bytes_times(block));
         lines.push(said_times(line));
     }
     lines
@@ -1175,6 +1528,55 @@ fn put_times(input: &mut Vec<u8>, phrases: &[LongPhrase]) -> Vec<String> {
         lines.push(said_times(line));
     }
     lines
+}
+
+/// The known cases for entries, which stand before the cases of their kind too. Gives the answers as
+/// `put_known` does.
+pub fn put_entries(input: &mut Vec<u8>) -> Vec<String> {
+    let mut lines = Vec::new();
+    for (place, bytes, line) in ENTRY {
+        put(input, 23, *place, 0, &bytes_of(bytes));
+        lines.push(line.to_string());
+    }
+    for (place, segment, sentence, turn, buffer, line) in ENTRY_WRITE {
+        let numbers = [*segment, *sentence, 0, *turn as u64];
+        put_numbers(input, 24, *place, &numbers, &bytes_of(buffer));
+        lines.push(line.to_string());
+    }
+    for (op, a, b, bytes, line) in ENTRY_FRAME {
+        put(input, *op, *a, *b, &bytes_of(bytes));
+        lines.push(line.to_string());
+    }
+    for (ops, a, bytes, line) in ENTRY_BLOCK {
+        for op in *ops {
+            put(input, *op, *a, 0, &bytes_of(bytes));
+            lines.push(line.to_string());
+        }
+    }
+    for (bytes, text) in ENTRY_TEXT {
+        put(input, 18, 0, 0, &bytes_of(bytes));
+        lines.push(text_line(text));
+    }
+    lines.extend(put_long_entries(input, LIMIT_ENTRY));
+    // The writer knows no limit as a block has.
+    put_numbers(input, 24, 65537, &[1, 2, 0, 3], &[0xa5; 65543]);
+    lines.push("count 5 ".to_string() + &"a5".repeat(65537) + "8000010203" + "a5");
+    lines
+}
+
+fn put_long_entries(input: &mut Vec<u8>, entries: &[LongEntry]) -> Vec<String> {
+    let mut lines = Vec::new();
+    for (place, block, line) in entries {
+        put(input, 23, *place, 0, &bytes_times(block));
+        lines.push(line.to_string());
+    }
+    lines
+}
+
+fn bytes_times(block: &[Times]) -> Vec<u8> {
+    let each = block.iter();
+    each.flat_map(|(times, hex)| bytes_of(hex).repeat(*times))
+        .collect()
 }
 
 fn said_times(line: &[Times]) -> String {
@@ -1272,6 +1674,7 @@ pub fn put_long(input: &mut Vec<u8>) -> Vec<String> {
     lines.push("refused 7 ".to_string() + &"a5".repeat(163851));
     lines.extend(put_long_places(input));
     lines.extend(put_times(input, LONG_PHRASE));
+    lines.extend(put_long_entries(input, LONG_ENTRY));
     lines
 }
 
@@ -1306,6 +1709,7 @@ pub fn check() -> Result<(), String> {
     lines.extend(put_strict(&mut known));
     lines.extend(put_slips(&mut known));
     lines.extend(put_phrases(&mut known));
+    lines.extend(put_entries(&mut known));
     lines.extend(put_long(&mut known));
     let items = frames(&known);
     if items.len() != lines.len() {

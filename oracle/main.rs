@@ -9,17 +9,19 @@
 //!   oracle try-list few COMMAND [WORD...]    runs a command on inputs for the listing, and says
 //!   oracle try-list many COMMAND [WORD...]   where it writes something else
 //!
-//! frames.rs has the layout of a frame; numbers.rs, blocks.rs, slips.rs and phrases.rs the rules;
-//! answers.rs the line for each op and listing.rs the listing; known.rs the answers written down by
-//! hand; cases.rs, block_cases.rs, slip_cases.rs and phrase_cases.rs the cases, strict_cases.rs more
-//! of them for strict reading, random.rs what they draw from a seed; trying.rs the inputs that `list`
-//! is run on.
+//! frames.rs has the layout of a frame; numbers.rs, blocks.rs, slips.rs, phrases.rs and entries.rs the
+//! rules; answers.rs the line for each op and listing.rs the listing; known.rs the answers written down
+//! by hand; cases.rs, block_cases.rs, slip_cases.rs, phrase_cases.rs and entry_cases.rs the cases,
+//! strict_cases.rs more of them for strict reading, random.rs what they draw from a seed; trying.rs the
+//! inputs that `list` is run on.
 //! Built by: rustc -O --edition 2021 -o target/oracle/oracle oracle/main.rs
 
 mod answers;
 mod block_cases;
 mod blocks;
 mod cases;
+mod entries;
+mod entry_cases;
 mod frames;
 mod known;
 mod listing;

@@ -14,8 +14,8 @@
 //! against a program that has such loops and must not share a slip with it. Where the document
 //! says a thing twice, both are here and `read` and `form` stop the run if they part.
 
-/// The number of a refusal, from the table of refusals; 9, 11 and 13 from document 02, #101, #104
-/// and #110. What refuses with this carries "its number and nothing else".
+/// The number of a refusal, from the table of refusals; 9, 10, 11 and 13 from document 02, #101, #102,
+/// #104 and #110. What refuses with this carries "its number and nothing else".
 pub type Refusal = u8;
 pub const END: Refusal = 1;
 pub const OVERFLOW: Refusal = 2;
@@ -26,6 +26,7 @@ pub const NOT_A_START: Refusal = 6;
 pub const TOO_LONG: Refusal = 7;
 pub const NO_START: Refusal = 8;
 pub const THREAD: Refusal = 9;
+pub const ENTRY: Refusal = 10;
 pub const SLIP: Refusal = 11;
 pub const TREE: Refusal = 13;
 
@@ -103,7 +104,7 @@ pub fn power(of: usize) -> i128 {
 }
 
 /// Seven bits of value to a byte, the lowest first; if signed, these 7k bits in two's complement.
-fn value(rule: Rule, form: &[u8]) -> i128 {
+pub fn value(rule: Rule, form: &[u8]) -> i128 {
     let k = form.len();
     let mut bits = 0;
     for (i, byte) in form.iter().enumerate() {

@@ -54,6 +54,7 @@ fn look(frame: Frame, bytes: &[u8]) -> Line {
         17 => turn(a, frame.b),
         19 => said::read_setting(slips::read_setting(bytes, place)),
         21 => settings::lies_in_range(bytes),
+        23 => said::read_entry(entries::read_entry(bytes, place)),
         _ => said::unknown(),
     }
 }
@@ -70,7 +71,7 @@ pub(crate) fn answer(
 ) -> Count {
     let op = frame.op;
     match op {
-        5..=8 | 16 | 20 => writes::answer(frame, bytes, list, out),
+        5..=8 | 16 | 20 | 24 => writes::answer(frame, bytes, list, out),
         15 => slices::read_strict(frame.a, bytes, slots, out),
         18 => listings::list(bytes, text, out),
         22 => slices::read_phrase(frame, bytes, list, slots, out),

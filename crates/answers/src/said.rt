@@ -3,6 +3,8 @@ use crate::lines::Line;
 use crate::lines::says;
 use blocks::SetDown;
 use blocks::Step;
+use entries::Entry;
+use entries::ReadEntry;
 use lists::Numbers;
 use lists::ReadList;
 use phrases::ReadPhrase;
@@ -114,6 +116,20 @@ pub(crate) fn read_phrase(answer: ReadPhrase) -> Line {
     match answer {
         ReadPhrase::Filled(numbers) => filled(numbers),
         ReadPhrase::Refused(refusal) => refused(refusal),
+    }
+}
+
+fn entry(entry: Entry) -> Line {
+    says(b"entry").number(entry.segment)
+        .number(entry.sentence)
+        .signed(entry.turn)
+}
+
+pub(crate) fn read_entry(answer: ReadEntry) -> Line {
+    match answer {
+        ReadEntry::Good(read, end) => entry(read).place(end),
+        ReadEntry::Bad(refusal, end) => decided(refusal, end),
+        ReadEntry::Refused(refusal) => refused(refusal),
     }
 }
 

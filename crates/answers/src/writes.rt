@@ -1,6 +1,7 @@
 // The ops that write into the bytes of a frame. Behind what the writer answered stand the bytes that it was lent, in
 // hexadecimal.
 use crate::frames::Frame;
+use crate::frames::eight;
 use crate::hex;
 use crate::listed::take_numbers;
 use crate::numbers;
@@ -8,6 +9,7 @@ use crate::numbers::Narrow;
 use crate::said;
 use crate::settings;
 use crate::settings::Asked;
+use entries::Entry;
 use words::Count;
 use words::Place;
 use words::Written;
@@ -57,6 +59,21 @@ fn write_setting(kind: u64, bytes: &mut [u8], place: Place) -> Wrote {
     }
 }
 
+// An entry, whose numbers stand in the first 32 bytes, into the bytes behind them: segment, sentence, eight bytes that are not looked at,
+// and the turn.
+fn write_entry(bytes: &mut [u8], place: Place) -> Wrote {
+    if bytes.len() < 32 {
+        return Wrote::Unknown;
+    }
+    let entry = Entry {
+        segment: eight(bytes, 0),
+        sentence: eight(bytes, 8),
+        turn: numbers::signed(eight(bytes, 24)),
+    };
+    let answer = entries::write_entry(entry, &mut bytes[32..], place);
+    Wrote::Answer(answer, Place(32))
+}
+
 fn write(frame: Frame, bytes: &mut [u8], list: &mut [u64]) -> Wrote {
     let op = frame.op;
     let a = frame.a;
@@ -70,6 +87,7 @@ fn write(frame: Frame, bytes: &mut [u8], list: &mut [u64]) -> Wrote {
         8 => Wrote::Answer(sleb128::write_i64(numbers::signed(a), bytes, place), front),
         16 => write_list(b, bytes, list, Place(a as usize)),
         20 => write_setting(a, bytes, place),
+        24 => write_entry(bytes, Place(a as usize)),
         _ => Wrote::Unknown,
     }
 }

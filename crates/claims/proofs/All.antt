@@ -9,6 +9,7 @@ use Rattle.claims.proofs.OfLists.{lists}
 use Rattle.claims.proofs.OfTurns.{turns}
 use Rattle.claims.proofs.OfSlips.{slips}
 use Rattle.claims.proofs.OfPhrases.{phrases}
+use Rattle.claims.proofs.OfEntries.{entries}
 use Rattle.claims.proofs.OfListing.{listing}
 
 pub all : Claims
@@ -20,5 +21,6 @@ all = record {
   turns = turns;
   slips = slips;
   phrases = phrases;
+  entries = entries;
   listing = listing;
 }

@@ -1,5 +1,5 @@
 -- An instance for each hypothesis of the claims that `met` does not already give: no claim is empty. Those of slips are in SlipInstances.antt, those of
--- phrases in PhraseInstances.antt.
+-- phrases in PhraseInstances.antt, those of entries in EntryInstances.antt.
 --
 --   written, read-back   write-read, read-write, more-behind, some-byte: zero is written into a buffer of one byte, and read there
 --   one-too-many         decides: the bytes 80 00 are refused by 3, decided by the byte at 1

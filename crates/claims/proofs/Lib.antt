@@ -27,8 +27,13 @@ mod OfTurns
 mod OfSlips
 mod PhraseSpelled
 mod OfPhrases
+mod EntryTries
+mod EntryForms
+mod EntryDamage
+mod OfEntries
 mod OfListing
 mod Instances
 mod SlipInstances
 mod PhraseInstances
+mod EntryInstances
 pub mod All

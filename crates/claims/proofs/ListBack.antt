@@ -7,15 +7,16 @@
 --   list-back       strict reading of what list writing wrote gives the list back, if that is within the block limit and the slice holds it
 use Prim.Native.Nat.{ℕ, _+_, _≤_, _<_, _^_}
 use mathlib.Core.Path.{_≡_, refl, ap, sym, _∙_}
-use mathlib.Core.List.{List, [], _∷_, _++_, append-nil, append-assoc}
+use mathlib.Core.List.{List, [], _∷_, _++_, append-nil}
 use native.Mathlib.Omega.{arith}
 use borrow.Author.Tests.{le-leb, le-ltb}
 use lib.ListN.{length, take, drop, length-append}
-use lib.Seq.{length-take-le, drop-append-seam, take-append-seam}
+use lib.Seq.{take-append-seam, drop-append-seam}
 use Rattle.words.specs.Answer.{gives, meansWritten}
 use Rattle.words.specs.declared.Count.{Count}
 use Rattle.words.specs.declared.Written.the-variants as W
 use Rattle.words.proofs.Cases.{by-order}
+use Rattle.words.proofs.LaysExactly.{laid-there}
 use Rattle.words.proofs.OneMeaning.{apart}
 use Rattle.groups.specs.Group.{run}
 use Rattle.groups.specs.Width.{reading}
@@ -31,7 +32,7 @@ use Rattle.lists.proofs.OneList.{same-list}
 use Rattle.claims.specs.Kinds.{loop64}
 use Rattle.claims.specs.OfLists.{ListBack, Of64Bits}
 use Rattle.claims.proofs.ReadGroup.{from-front}
-use Rattle.claims.proofs.RoundTrips.{writes-list}
+use Rattle.claims.proofs.RoundTrips.{lays-list, writes-list}
 use Rattle.claims.proofs.Readers.{reading-of}
 
 -- a number's form is read, whatever follows it
@@ -75,19 +76,8 @@ strict-fills s ns old short e room =
 written-there : (ns before : List ℕ) (at : ℕ) (n : Count) (after : List ℕ) → WritesList ns before at (W.Bytes n) after
     → (n .0 ≡ length (forms ns)) × (take (n .0) (drop at after) ≡ forms ns)
 written-there ns before at n after w =
-    let rows = writes-list ns before at (W.Bytes n) after w in
-    by-order listLimit (length ns) (λ h. apart (ap meansWritten (rows .0 .0 h .0)))
-    (λ short. by-order (length before) (at + length (forms ns))
-    (λ h. apart (ap meansWritten (rows .1 short .1 .0 h .0)))
-    (λ h.
-    let q = rows .1 short .0 .0 h in
-    let k : gives (n .0) ≡ gives (length (forms ns)) = ap meansWritten (q .0) in
-    let m : n .0 ≡ length (forms ns) = cc in
-    let a : length (take at before) ≡ at = length-take-le at before (omega arith) in
-    let rest = drop (at + length (forms ns)) before in
-    let d : drop at after ≡ forms ns ++ rest =
-    ap (drop at) (q .1) ∙ rw append-assoc (ap (λ (i : ℕ). drop i (take at before ++ (forms ns ++ rest))) (sym a) ∙ drop-append-seam (take at before) (forms ns ++ rest)) in
-    (m, rw (m, d) (take-append-seam (forms ns) rest))))
+    by-order listLimit (length ns) (λ h. apart (ap meansWritten (writes-list ns before at (W.Bytes n) after w .0 .0 h .0)))
+    (λ short. laid-there (forms ns) before at (W.Bytes n) after (lays-list ns before at (W.Bytes n) after w short) n refl)
 
 pub list-back : ListBack
 list-back ns before at n after old r out words w short room p =

@@ -2,6 +2,7 @@
 --
 --   lays-form     a writer of any kind lays the number's form down
 --   writes        it answers the count and leaves the form at the place, exactly where there is room; else it answers 5 and leaves every byte
+--   lays-list     a list no longer than the limit is laid down, its forms one after another
 --   writes-list   a list of more numbers than the limit is refused by 7; any other is written as one number is, its forms one after another
 --   write-read    what was written is read as the same number, with the same count
 --   read-write    what was read, written at the same place, takes the same count and changes no byte
@@ -42,7 +43,7 @@ pub writes : (k : Kind) → Writes k
 writes k v before at r after p = lays-exactly (form k v) before at r after (lays-form k v p)
 
 -- a list no longer than the limit is laid down as one number's form is
-lays-list : (ns s : List ℕ) (at : ℕ) (r : Written) (out : List ℕ) → WritesList ns s at r out → length ns ≤ listLimit → Lays (forms ns) s at r out
+pub lays-list : (ns s : List ℕ) (at : ℕ) (r : Written) (out : List ℕ) → WritesList ns s at r out → length ns ≤ listLimit → Lays (forms ns) s at r out
 lays-list ns s at r out w h =
     let t = le-ltb listLimit (length ns) h in
     record { answer = w .answer ∙ rw t; leaves = w .leaves ∙ rw t }

@@ -10,6 +10,7 @@ use Rattle.claims.specs.OfLists.{OfLists}
 use Rattle.claims.specs.OfTurns.{OfTurns}
 use Rattle.claims.specs.OfSlips.{OfSlips}
 use Rattle.claims.specs.OfPhrases.{OfPhrases}
+use Rattle.claims.specs.OfEntries.{OfEntries}
 use Rattle.claims.specs.OfListing.{OfListing}
 
 pub record Claims : Type 0 where
@@ -20,4 +21,5 @@ pub record Claims : Type 0 where
   pub turns : OfTurns
   pub slips : OfSlips
   pub phrases : OfPhrases
+  pub entries : OfEntries
   pub listing : OfListing

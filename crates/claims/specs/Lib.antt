@@ -9,5 +9,6 @@ pub mod OfLists
 pub mod OfTurns
 pub mod OfSlips
 pub mod OfPhrases
+pub mod OfEntries
 pub mod OfListing
 pub mod Claims

@@ -1,9 +1,12 @@
 // How the number code is used from a crate of one's own: writing, reading, what a turn means, stepping, set-down, strict
-// reading, the settings of tools, and phrases. Every answer is taken apart by a `match` and becomes a line of standard output. README.md shows parts of this file.
+// reading, the settings of tools, phrases, and entries. Every answer is taken apart by a `match` and becomes a line of standard output.
+// README.md shows parts of this file.
 use blocks::Cursor;
 use blocks::Rule;
 use blocks::SetDown;
 use blocks::Step;
+use entries::Entry;
+use entries::ReadEntry;
 use groups::Value;
 use libc::STDOUT_FILENO;
 use lists::Numbers;
@@ -159,6 +162,43 @@ fn read_phrase(numbers: &[u64], sentences: &mut [u64]) {
     }
 }
 
+// Writes an entry at a place, its mark first.
+fn write_entry(entry: Entry, buffer: &mut [u8], place: Place) {
+    match entries::write_entry(entry, buffer, place) {
+        Written::Bytes(count) => say_count(count),
+        Written::Refused(refusal) => say_refused(refusal),
+    }
+}
+
+// Reads the entries of a block one after another. Where one is damaged it is bad, and those behind it keep their columns. A block
+// of n bytes has fewer than n entries, so n readings come to the last: they are counted down because a loop has to be proved to end.
+fn read_entries(block: &[u8]) {
+    let mut place = Place(0);
+    let mut left = block.len();
+    while 0 < left {
+        left -= 1;
+        match entries::read_entry(block, place) {
+            ReadEntry::Good(entry, end) => {
+                say_entry(entry);
+                place = end;
+            }
+            ReadEntry::Bad(refusal, end) => {
+                say_ended(refusal, end);
+                place = end;
+            }
+            ReadEntry::Refused(_) => {
+                return;
+            }
+        }
+    }
+}
+
+fn say_entry(entry: Entry) {
+    say(b"segment ", entry.segment);
+    say(b"sentence ", entry.sentence);
+    say_meaning(entry.turn, turns::RIGHT);
+}
+
 fn line(text: &[u8]) {
     io::write_all(STDOUT_FILENO, text);
 }
@@ -216,6 +256,12 @@ fn say_at(byte: Place) {
     say(b"at ", byte.0 as u64);
 }
 
+// The same with the place where an entry ends.
+fn say_ended(refusal: Refusal, end: Place) {
+    say_refused(refusal);
+    say(b"end ", end.0 as u64);
+}
+
 fn show_writing(buffer: &mut [u8]) {
     write_number(12857, buffer, Place(3));
     write_turn(-2, buffer, Place(5));
@@ -268,10 +314,23 @@ fn show_phrases() {
     read_phrase(&phrase[0..3], &mut sentences);
 }
 
+// An entry is written behind two others, the second of which has lost a number.
+fn show_entries() {
+    let mut block = *b"\x80\x00\x07\x01\x02\x80\x00\x07\x02\x00\x00\x00\x00\x00";
+    let entry = Entry {
+        segment: 7,
+        sentence: 3,
+        turn: -1,
+    };
+    write_entry(entry, &mut block, Place(9));
+    read_entries(&block);
+}
+
 fn main() {
     show_numbers();
     show_block(b"\x05\x80\x00\x80\x01\x83");
     show_block(b"\x05\x80\x01");
     show_settings();
     show_phrases();
+    show_entries();
 }

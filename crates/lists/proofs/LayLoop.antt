@@ -1,69 +1,38 @@
--- Laying bytes down one after another where there is room for them: what a loop holds, over any bytes; then a number byte by byte, and a
--- list number by number.
+-- A list laid down where there is room for it: a number byte by byte, and the list number by number.
 --
---   Laying all s at out to rest   of the bytes all, which go to the place at of s, those before the place to stand in out, and rest are left
---   nothing-laid                  at first, all are left
---   part-laid                     with a part of what is left stored, the rest of it is
---   room-left                     there is room for what is left
---   byte-put                      a number of 128 or more: its first byte stored, v div 128 is left
---   last-put                      one below 128: its one byte stored, all is
---   ninth-put                     behind nine bytes, what is left of a number of 64 bits is below 128
---   room-next                     there is room for a list's next number,
---   one-of-list                   which, stored, leaves those behind it
---   all-of-list                   behind the last number, all forms are laid down, with their count of bytes
---   ample                         where ten bytes for each number fit, the forms do
---   list-too-long                 a list of more numbers than the limit is refused by 7
---   list-laid                     any other is written by laying its forms down
+--   byte-put        a number of 128 or more: its first byte stored, v div 128 is left
+--   last-put        one below 128: its one byte stored, all is
+--   ninth-put       behind nine bytes, what is left of a number of 64 bits is below 128
+--   room-next       there is room for a list's next number,
+--   one-of-list     which, stored, leaves those behind it
+--   all-of-list     behind the last number, all forms are laid down, with their count of bytes
+--   ample           where ten bytes for each number fit, the forms do
+--   list-too-long   a list of more numbers than the limit is refused by 7
+--   list-laid       any other is written by laying its forms down
 use Prim.Native.Nat.{ℕ, suc, _+_, _-_, _*_, _/_, _^_, _≤_, _<_}
 use mathlib.Core.Path.{_≡_, refl, ap, sym, _∙_}
-use mathlib.Core.List.{List, [], _∷_, _++_}
+use mathlib.Core.List.{List, [], _∷_}
 use mathlib.Core.Bool.{Bool, true}
 use native.Mathlib.Nat.{mod-eq-of-lt}
 use native.Mathlib.Omega.{arith}
 use borrow.Author.Tests.{lt-ltb, le-ltb, le-leb}
 use lib.ListN.{length, getD, drop, set, length-append}
-use lib.Seq.{sets, sets-eq, length-sets}
+use Rattle.words.specs.Inner.{Puts}
 use Rattle.words.specs.Lays.{Lays}
 use Rattle.words.specs.Promise.{HasRoom}
 use Rattle.words.specs.declared.Refusal.the-variants.{TooLong}
 use Rattle.words.specs.declared.Written.{Written}
 use Rattle.words.specs.declared.Written.the-variants.{Bytes, Refused}
 use Rattle.words.proofs.Cases.{by-order}
-use Rattle.words.proofs.Lays.{fits-there, room-there, sets-append}
+use Rattle.words.proofs.Lays.{room-there}
+use Rattle.words.proofs.LaysInParts.{Laying, part-laid, all-laid, rest-fits, puts-lays}
 use Rattle.bits.specs.Macros.{takeLow7Bits, setHigh8Bit}
 use Rattle.bits.proofs.HighBit.{set-seven}
 use Rattle.uleb128.specs.Unsigned.{form}
 use Rattle.uleb128.proofs.Forms.{form-small, form-large, form-short, form-long}
-use Rattle.lists.specs.Inner.{Puts}
 use Rattle.lists.specs.Lists.{forms, listLimit}
 use Rattle.lists.specs.Promise.{WritesList}
 use Rattle.lists.proofs.TotalLoop.{forms-next, forms-end, length-next}
-
-pub record Laying (all s : List ℕ) (at : ℕ) (out : List ℕ) (to : ℕ) (rest : List ℕ) : Type 0 where
-  pub kept : length out ≡ length s
-  pub onward : at ≤ to
-  pub ends : to + length rest ≡ at + length all
-  pub left : sets out to rest ≡ sets s at all
-
-pub nothing-laid : (all s : List ℕ) (at : ℕ) → Laying all s at s at all
-nothing-laid all s at = record { kept = refl; onward = omega arith; ends = refl; left = refl }
-
-module _ {all s : List ℕ} {at : ℕ} {out : List ℕ} {to : ℕ} {rest : List ℕ} (g : Laying all s at out to rest) where
-  pub part-laid : (part more : List ℕ) → rest ≡ part ++ more → {after : List ℕ} {p : ℕ} → after ≡ sets out to part → p ≡ to + length part
-      → Laying all s at after p more
-  part-laid part more e {after} {p} f q =
-      record {
-        kept = ap length f ∙ length-sets out to part ∙ g .kept;
-        onward = omega (arith, g .onward);
-        ends = omega (arith, g .ends, ap length e, length-append part more);
-        left = rw (f, q) (sym (sets-append part more out to) ∙ ap (sets out to) (sym e) ∙ g .left);
-      }
-
-  all-laid : rest ≡ [] → Puts all s at to out
-  all-laid e = record { behind = omega (arith, g .ends, ap length e); leaves = rw e at (g .left) }
-
-  pub room-left : at + length all ≤ length s → to + length rest ≤ length out
-  room-left h = omega (arith, g .ends, g .kept)
 
 -- a number, byte by byte
 module _ (v rest : ℕ) {s : List ℕ} {at : ℕ} {out : List ℕ} {to : ℕ} (g : Laying (form v) s at out to (form rest)) where
@@ -84,16 +53,14 @@ module _ (v rest : ℕ) {s : List ℕ} {at : ℕ} {out : List ℕ} {to : ℕ} (g
 -- a list, number by number
 module _ (ns : List ℕ) (i : ℕ) {s : List ℕ} {at : ℕ} {out : List ℕ} {to : ℕ} (g : Laying (forms ns) s at out to (forms (drop i ns))) where
   pub room-next : at + length (forms ns) ≤ length s → i < length ns → to + length (form (getD ns i 0)) ≤ length out
-  room-next r h = omega (arith, room-left g r, length-next ns i h)
+  room-next r h = omega (arith, rest-fits g r, length-next ns i h)
 
   pub one-of-list : i < length ns → {after : List ℕ} {p : ℕ} → Puts (form (getD ns i 0)) out to p after
       → Laying (forms ns) s at after p (forms (drop (i + 1) ns))
   one-of-list h w = part-laid g (form (getD ns i 0)) (forms (drop (i + 1) ns)) (forms-next ns i h) (w .leaves) (w .behind)
 
   pub all-of-list : at + length (forms ns) ≤ length s → i ≤ length ns → length ns ≤ i → Lays (forms ns) s at (Bytes (record { 0 = to - at })) out
-  all-of-list r h l =
-      let p = all-laid g (forms-end ns i h l) in
-      fits-there (forms ns) s at _ r (omega (arith, p .behind)) (p .leaves ∙ sets-eq (forms ns) s at r)
+  all-of-list r h l = let p = all-laid g (forms-end ns i h l) in puts-lays _ r (omega (arith, p .behind)) p
 
 -- at most ten bytes for each number of 64 bits
 forms-short : (ns : List ℕ) → ((i : ℕ) → getD ns i 0 < 2 ^ 64) → length (forms ns) ≤ 10 * length ns

@@ -7,12 +7,10 @@
 --   Passes s p r       r says what stands at the start p: a fault, or a number and the place behind it
 --   meansScanned       what the first pass's answer says
 --   Scans s r          r says how many numbers the block s has, or its first fault
---   Puts bytes s at r out   the bytes are stored from the place of s on, r is the place behind them, and all else is kept in out
-use Prim.Native.Nat.{ℕ, _+_, _≤_, _<_}
+use Prim.Native.Nat.{ℕ, _≤_, _<_}
 use mathlib.Core.List.{List, _∷_}
 use mathlib.Core.Path.{_≡_}
 use lib.ListN.{length, drop}
-use lib.Seq.{sets}
 use Rattle.words.specs.Answer.{Answer, gives, refused, becauseAt}
 use Rattle.blocks.specs.Block.{blockLimit}
 use Rattle.blocks.specs.GroupsAndTail.{Start}
@@ -50,7 +48,3 @@ meansScanned (C.Fault why at) = refused (becauseAt why (at .0))
 
 pub record Scans (s : List ℕ) (r : Scanned) : Type 0 where
   pub is : meansScanned r ≡ many (numbers 0 s)
-
-pub record Puts (bytes s : List ℕ) (at r : ℕ) (out : List ℕ) : Type 0 where
-  pub behind : r ≡ at + length bytes
-  pub leaves : out ≡ sets s at bytes

@@ -12,10 +12,10 @@ use words::has_room;
 ghost use mathlib.Core.Path.{_≡_};
 ghost use Prim.Native.Nat.{_+_, _≤_};
 ghost use lib.ListN.{length};
+ghost use Rattle.words.specs.Inner.{Puts};
 ghost use Rattle.words.specs.Lays.{Lays, Takes};
 ghost use Rattle.words.specs.Promise.{HasRoom};
 ghost use Rattle.uleb128.specs.Unsigned.{form};
-ghost use Rattle.lists.specs.Inner.{Puts};
 ghost use Rattle.lists.specs.Lists.{forms, listLimit};
 ghost use Rattle.lists.specs.Promise.{WritesList};
 

@@ -3,14 +3,15 @@
 --   laid-fits      where the bytes fit, their count is answered, and they stand at the place
 --   laid-no-room   where they don't, 5 is, and every byte is as it was
 --   count-fits     where a count is answered, it is theirs, and they fit
+--   laid-there     and so many bytes from the place on are they
 --   lays-exactly   together, both ways; and the buffer keeps its length
 use Prim.Native.Nat.{ℕ, _+_, _≤_, _<_}
 use mathlib.Core.Path.{_≡_, ap, sym, _∙_}
-use mathlib.Core.List.{List, _++_}
+use mathlib.Core.List.{List, _++_, append-assoc}
 use native.Mathlib.Omega.{arith}
 use borrow.Author.Tests.{le-leb, lt-leb}
 use lib.ListN.{length, take, drop, length-append, length-drop}
-use lib.Seq.{length-take-le}
+use lib.Seq.{length-take-le, drop-append-seam, take-append-seam}
 use Rattle.words.specs.Answer.{gives, meansWritten}
 use Rattle.words.specs.Lays.{writing, laid, Lays, LaysExactly}
 use Rattle.words.specs.declared.Count.{Count}
@@ -38,6 +39,16 @@ module _ (bytes s : List ℕ) (at : ℕ) (r : Written) (out : List ℕ) (w : Lay
       by-order (length s) (at + length bytes)
       (λ h. apart (ap meansWritten (sym e ∙ laid-no-room h .0)))
       (λ h. let q : gives (n .0) ≡ gives (length bytes) = ap meansWritten (sym e ∙ laid-fits h .0) in (h, cc))
+
+  pub laid-there : (n : Count) → r ≡ Bytes n → (n .0 ≡ length bytes) × (take (n .0) (drop at out) ≡ bytes)
+  laid-there n e =
+      let c = count-fits n e in
+      let rest = drop (at + length bytes) s in
+      let a : length (take at s) ≡ at = length-take-le at s (omega (arith, c .0)) in
+      let d : drop at out ≡ bytes ++ rest =
+      ap (drop at) (laid-fits (c .0) .1)
+      ∙ rw append-assoc (ap (λ (i : ℕ). drop i (take at s ++ (bytes ++ rest))) (sym a) ∙ drop-append-seam (take at s) (bytes ++ rest)) in
+      (c .1, rw (c .1, d) (take-append-seam bytes rest))
 
   length-kept : length out ≡ length s
   length-kept =

@@ -4,3 +4,4 @@ pub mod Lays
 pub mod OneMeaning
 pub mod Moved
 pub mod LaysExactly
+pub mod LaysInParts

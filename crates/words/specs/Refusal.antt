@@ -1,9 +1,9 @@
--- Document 01, "When the number desk refuses", and what document 02 adds (9, #101; 11, #104; 13, #110): the number of each refusal.
+-- Document 01, "When the number desk refuses", and what document 02 adds (9, #101; 10, #102; 11, #104; 13, #110): the number of each refusal.
 --
 --   numberOf   the number of a refusal
 use Prim.Native.Nat.{ℕ}
 use Rattle.words.specs.declared.Refusal.{Refusal}
-use Rattle.words.specs.declared.Refusal.the-variants.{End, Overflow, NotShortest, Place, NoRoom, NotAStart, TooLong, NoStart, Thread, Slip, Tree}
+use Rattle.words.specs.declared.Refusal.the-variants.{End, Overflow, NotShortest, Place, NoRoom, NotAStart, TooLong, NoStart, Thread, Entry, Slip, Tree}
 
 abbrev pub numberOf : Refusal → ℕ
 numberOf End = 1
@@ -15,5 +15,6 @@ numberOf NotAStart = 6
 numberOf TooLong = 7
 numberOf NoStart = 8
 numberOf Thread = 9
+numberOf Entry = 10
 numberOf Slip = 11
 numberOf Tree = 13

@@ -19,6 +19,7 @@ pub enum Refusal {
     TooLong,
     NoStart,
     Thread,
+    Entry,
     Slip,
     Tree,
 }
@@ -43,6 +44,7 @@ pub fn number(refusal: Refusal) -> u8
         Refusal::TooLong => 7,
         Refusal::NoStart => 8,
         Refusal::Thread => 9,
+        Refusal::Entry => 10,
         Refusal::Slip => 11,
         Refusal::Tree => 13,
     }

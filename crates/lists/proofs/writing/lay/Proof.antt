@@ -3,8 +3,9 @@ use Prim.Native.Nat.{_-_, _≤_}
 use native.Mathlib.Omega.{arith}
 use borrow.Author.Needs.{needs}
 use lib.ListN.{length, drop}
+use Rattle.words.proofs.LaysInParts.{Laying, nothing-laid}
 use Rattle.lists.specs.Lists.{forms}
-use Rattle.lists.proofs.LayLoop.{Laying, nothing-laid, one-of-list, all-of-list, room-next}
+use Rattle.lists.proofs.LayLoop.{one-of-list, all-of-list, room-next}
 use Rattle.lists.proofs.writing.lay.Statement.{statement}
 use Rattle.lists.proofs.writing.lay.Tie as tie
 

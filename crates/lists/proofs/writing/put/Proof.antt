@@ -4,9 +4,10 @@ use native.Mathlib.Nat.{add-zero, add-assoc}
 use native.Mathlib.Omega.{arith}
 use borrow.Author.Needs.{needs}
 use lib.ListN.{length, length-set}
+use Rattle.words.proofs.LaysInParts.{Laying, nothing-laid, rest-fits}
 use Rattle.uleb128.specs.Unsigned.{form}
 use Rattle.uleb128.proofs.Forms.{form-some}
-use Rattle.lists.proofs.LayLoop.{Laying, nothing-laid, byte-put, last-put, ninth-put, room-left}
+use Rattle.lists.proofs.LayLoop.{byte-put, last-put, ninth-put}
 use Rattle.lists.proofs.writing.put.Statement.{statement}
 use Rattle.lists.proofs.writing.put.Tie as tie
 
@@ -19,7 +20,7 @@ abbrev μ-loop : tie.MeasureT-loop
 -- the next byte goes to a place of the buffer
 place-there : (l : tie.At-loop Inv-loop μ-loop)
     → l .before .before .args .at + l .loop .i < length (l .loop .buffer)
-place-there l = omega (arith, room-left (l .loop .inv) (l .before .before .pre), form-some (l .loop .rest))
+place-there l = omega (arith, rest-fits (l .loop .inv) (l .before .before .pre), form-some (l .loop .rest))
 
 loop-holds : tie.Need-loop-holds Inv-loop μ-loop
 loop-holds c = rw (add-zero (c .before .args .at)) (nothing-laid _ _ _)

@@ -1,0 +1,9 @@
+pub mod NextMarks
+pub mod Standing
+pub mod SaysGroups
+pub mod Heard
+pub mod EntryReturns
+pub mod OneEntry
+pub mod PutEntry
+pub mod SameList
+pub mod InOrder

@@ -1,0 +1,48 @@
+// What an entry says: a number for each field, and nothing else.
+use crate::Entry;
+use sleb128::ReadI64;
+use sleb128::read_i64;
+use uleb128::ReadU64;
+use uleb128::read_u64;
+use words::Place;
+ghost use Rattle.entries.specs.Inner.{Hears};
+
+// What the bytes behind a mark say.
+pub(crate) enum Said {
+    Numbers(Entry),
+    Fault,
+}
+
+// What all these bytes say, from behind a mark on.
+pub(crate) fn hear(bytes: &[u8]) -> Said
+    ensures { λ r. ⌜ Hears (now (bytes .entry)) r ⌝ }
+{
+    match read_u64(bytes, Place(0)) {
+        ReadU64::Refused(_, _) => Said::Fault,
+        ReadU64::Number(segment, count) => {
+            let second = count.0;
+            match read_u64(bytes, Place(second)) {
+                ReadU64::Refused(_, _) => Said::Fault,
+                ReadU64::Number(sentence, count2) => {
+                    let n2 = count2.0;
+                    let third = second + n2;
+                    match read_i64(bytes, Place(third)) {
+                        ReadI64::Refused(_, _) => Said::Fault,
+                        ReadI64::Number(turn, count3) => {
+                            let n3 = count3.0;
+                            let end = third + n3;
+                            if end < bytes.len() {
+                                return Said::Fault;
+                            }
+                            Said::Numbers(Entry {
+                                segment,
+                                sentence,
+                                turn,
+                            })
+                        }
+                    }
+                }
+            }
+        }
+    }
+}
