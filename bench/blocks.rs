@@ -23,13 +23,14 @@ fn signed_of_bytes(random: &mut Random, n: u64) -> u64 {
 }
 
 impl Kind {
-    fn group(&self, random: &mut Random, n: u64) -> Vec<u8> {
+    /// The form of a random one that takes so many bytes.
+    pub fn group(&self, random: &mut Random, n: u64) -> Vec<u8> {
         (self.form)((self.number)(random, n))
     }
 }
 
 /// A group of n bytes that is no number by either rule: its last byte is one too many, or it has more than ten.
-fn gap(random: &mut Random, n: u64) -> Vec<u8> {
+pub fn gap(random: &mut Random, n: u64) -> Vec<u8> {
     let mut group: Vec<u8> = (1..n).map(|_| 128 + random.below(64) as u8).collect();
     group.push(if n > 10 { random.below(128) as u8 } else { 0 });
     group
@@ -43,7 +44,7 @@ pub struct Block {
 }
 
 /// Group after group, as long as they fit so many bytes.
-fn block(random: &mut Random, size: usize, group: impl Fn(&mut Random) -> Vec<u8>) -> Block {
+pub fn block(random: &mut Random, size: usize, mut group: impl FnMut(&mut Random) -> Vec<u8>) -> Block {
     let mut block = Block { bytes: vec![], groups: 0 };
     loop {
         let group = group(random);

@@ -1,4 +1,7 @@
 //! What lengths, writers and readers share: random numbers and mixes of them, the check, the clock and the tables.
+use crate::blocks::Block;
+use crate::ordinary::reading::Pass;
+use crate::ordinary::writing::Written;
 use std::borrow::Borrow;
 use std::hint::black_box;
 use std::io::{self, Write as _};
@@ -85,10 +88,37 @@ impl Check {
             self.agree(what, ours, answers);
         }
     }
+
+    /// The same for writers, into a buffer of so many bytes. What each leaves there agrees too, and a refusal changes no byte.
+    pub fn agree_on_bytes<F: Fn(&mut [u8]) -> Written>(&mut self, what: impl Fn() -> String, size: usize, writers: &[(&str, F)]) {
+        let marked: Vec<u8> = (0..size).map(|i| 0xa5 ^ i as u8).collect();
+        let mut answers = writers.iter().map(|(name, write)| {
+            let mut buffer = marked.clone();
+            let written = write(&mut buffer);
+            if written.is_err() && buffer != marked {
+                differ(&format!("{}: a refused write changed a byte", what()), name);
+            }
+            (*name, (written, buffer))
+        });
+        let (_, ours) = answers.next().unwrap();
+        self.agree(&what, ours, answers);
+    }
+
+    /// The same for passes over bytes.
+    pub fn agree_on_pass(&mut self, what: impl Fn() -> String, passes: &[(&str, Pass)], bytes: &[u8]) {
+        let mut sums = passes.iter().map(|(name, pass)| (*name, pass(bytes)));
+        let (_, ours) = sums.next().unwrap();
+        self.agree(what, ours, sums);
+    }
 }
 
 /// Reads into the front of a slice.
 pub type IntoSlice<I, A, E> = fn(&I, &mut [u64]) -> Result<A, E>;
+
+/// Bytes, as the case is told in which two sides differ.
+pub fn shown(bytes: &[u8]) -> String {
+    format!("{} bytes: {:02x?}", bytes.len(), &bytes[..bytes.len().min(100)])
+}
 
 pub fn differ(what: &str, name: &str) -> ! {
     eprintln!("bench: {name} and ours differ: {what}");
@@ -119,6 +149,11 @@ pub fn time<V, S, R>(versions: &[V], samples: &[S], numbers: impl Fn(&S) -> usiz
         });
     }
     best.iter().map(|times| times.iter().sum::<f64>() / times.len() as f64).collect()
+}
+
+/// The same of passes over blocks, in nanoseconds for a group.
+pub fn time_passes(passes: &[(&str, Pass)], blocks: &[Block]) -> Vec<f64> {
+    time(passes, blocks, |block| block.groups, |(_, pass), block| pass(&block.bytes))
 }
 
 /// Runs it so many frames deeper in the stack.
@@ -164,4 +199,12 @@ pub fn beside(ours: f64, names: &[&str], times: &[f64]) -> [String; 2] {
 pub fn row_beside(what: &str, mix: &str, names: &[&str], times: &[f64]) -> io::Result<()> {
     let [all, ratio] = beside(times[0], &names[1..], &times[1..]);
     row(&[what, mix, &figure(times[0]), &all, &ratio])
+}
+
+/// A row of ours, then each ordinary version called, then each inlined.
+pub fn row_beside_both(what: &str, mix: &str, names: &[&str], times: &[f64]) -> io::Result<()> {
+    let (called, inlined) = times[1..].split_at(names.len());
+    let [called, to_called] = beside(times[0], names, called);
+    let [inlined, to_inlined] = beside(times[0], names, inlined);
+    row(&[what, mix, &figure(times[0]), &called, &to_called, &inlined, &to_inlined])
 }

@@ -1,11 +1,12 @@
 //! bench: holds our functions to ordinary ones, then times them side by side and prints tables.
 //!
-//!   ours, ordinary     the two sides
-//!   writing, reading, phrases   what is checked, timed and printed of each
-//!   blocks             what is read
-//!   common             what is shared
+//!   ours, ordinary                       the two sides
+//!   writing, reading, phrases, entries   what is checked, timed and printed of each
+//!   blocks                               what is read
+//!   common                               what is shared
 mod blocks;
 mod common;
+mod entries;
 mod ordinary;
 mod ours;
 mod phrases;
@@ -21,8 +22,10 @@ fn main() -> io::Result<()> {
     writing::check(&mut check, &mut random);
     reading::check(&mut check, &mut random);
     phrases::check(&mut check, &mut random);
+    entries::check(&mut check, &mut random);
     writeln!(io::stdout(), "checked: {} cases, and the answers agree", check.cases)?;
     writing::table(&mut random)?;
     reading::tables(&mut random)?;
-    phrases::tables(&mut random)
+    phrases::tables(&mut random)?;
+    entries::tables(&mut random)
 }

@@ -1,4 +1,5 @@
 //! Our functions, as safe Rust ones: what bench/timed.rattle hands out. A slice goes there as a pointer and a length.
+use crate::ordinary::entries::{Entry, ReadEntry};
 use crate::ordinary::phrases::Filled;
 use crate::ordinary::reading::{Read, Step, Strict};
 use crate::ordinary::writing::Written;
@@ -34,6 +35,10 @@ extern "C" {
     fn told_lay_listing(block: *const u8, n: usize, text: *mut u8) -> usize;
 
     fn timed_read_phrase(numbers: *const u64, n: usize, sentences: *mut u64, room: usize) -> i64;
+
+    fn told_read_entry(block: *const u8, n: usize, at: usize, told: *mut u64, size: usize);
+    fn timed_reads_entry(block: *const u8, n: usize) -> u64;
+    fn timed_write_entry(segment: u64, sentence: u64, turn: i64, buffer: *mut u8, size: usize, at: usize) -> i64;
 }
 
 /// A count or a place, or below zero a refusal.
@@ -157,4 +162,21 @@ pub fn lay_listing(block: &[u8], text: &mut [u8]) -> usize {
 
 pub fn read_phrase(numbers: &[u64], sentences: &mut [u64]) -> Filled {
     decoded(unsafe { timed_read_phrase(numbers.as_ptr(), numbers.len(), sentences.as_mut_ptr(), sentences.len()) })
+}
+
+// ---- entries
+
+pub fn read_entry(block: &[u8], at: usize) -> ReadEntry {
+    let [case, a, b, c, d] = told(|told, size| unsafe { told_read_entry(block.as_ptr(), block.len(), at, told, size) });
+    match case {
+        0 => ReadEntry::Good(Entry { segment: a, sentence: b, turn: c as i64 }, d as usize),
+        1 => ReadEntry::Bad(a as u8, b as usize),
+        _ => ReadEntry::Refused(a as u8),
+    }
+}
+
+pass!(reads_entry, timed_reads_entry);
+
+pub fn write_entry(entry: &Entry, buffer: &mut [u8], at: usize) -> Written {
+    decoded(unsafe { timed_write_entry(entry.segment, entry.sentence, entry.turn, buffer.as_mut_ptr(), buffer.len(), at) })
 }

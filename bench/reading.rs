@@ -1,6 +1,6 @@
 //! Single reads, steps, and what goes over a whole block. A pass goes over a block of 60,000 bytes, or as many as whole groups make.
 use crate::blocks::{self, Block, Blocks, Kind, I64, U32, U64};
-use crate::common::{beside, figure, head, row, row_beside, time, Check, Random, LONGEST, MIXES, NINE_IN_TEN, ONE_BYTE};
+use crate::common::{beside, figure, head, row, row_beside, row_beside_both, shown, time, time_passes, Check, Random, LONGEST, MIXES, NINE_IN_TEN, ONE_BYTE};
 use crate::ordinary::reading::{self as ordinary, Pass, Read, Reader, Step, Stepper, Strict};
 use crate::ordinary::BLOCK_LIMIT;
 use crate::ours;
@@ -104,10 +104,6 @@ fn strict_blocks(random: &mut Random) -> Vec<Blocks> {
 
 // ---- both sides answer alike
 
-fn shown(bytes: &[u8]) -> String {
-    format!("{} bytes: {:02x?}", bytes.len(), &bytes[..bytes.len().min(100)])
-}
-
 /// Every place up to the end, and two past it.
 fn places(bytes: &[u8]) -> impl Iterator<Item = usize> {
     (0..=bytes.len() + 1).chain(once(usize::MAX))
@@ -182,17 +178,11 @@ fn check_long_blocks(check: &mut Check, random: &mut Random) {
     }
 }
 
-fn check_passes(check: &mut Check, what: impl Fn() -> String, passes: &Passes, bytes: &[u8]) {
-    let mut sums = passes.iter().map(|(name, pass)| (*name, pass(bytes)));
-    let (_, ours) = sums.next().unwrap();
-    check.agree(what, ours, sums);
-}
-
 fn check_block(check: &mut Check, block: &[u8]) {
     check_places(check, block, places(block));
     check_strict(check, block);
     for stepping in &STEPPINGS {
-        check_passes(check, || format!("a pass by {} over {}", stepping.what, shown(block)), &stepping.passes(), block);
+        check.agree_on_pass(|| format!("a pass by {} over {}", stepping.what, shown(block)), &stepping.passes(), block);
     }
 }
 
@@ -220,7 +210,7 @@ fn check_whole_passes(check: &mut Check, what: &str, passes: &Passes, all: &[Blo
     for (mix, blocks) in all {
         let what = || format!("a pass by {what} over {mix}");
         for Block { bytes, groups } in blocks {
-            check_passes(check, what, passes, bytes);
+            check.agree_on_pass(what, passes, bytes);
             let starts: Vec<usize> = successors(Some(0), |&at| next(bytes, at)).collect();
             check.agree(what, (starts.len() - 1, starts.last()), [("the block", (*groups, Some(&bytes.len())))]);
         }
@@ -264,20 +254,12 @@ pub fn check(check: &mut Check, random: &mut Random) {
 
 // ---- timing
 
-fn time_passes(passes: &Passes, blocks: &[Block]) -> Vec<f64> {
-    time(passes, blocks, |block| block.groups, |(_, pass), block| pass(&block.bytes))
-}
-
 fn table_of_reads(random: &mut Random) -> io::Result<()> {
     head(&["what", "numbers", "ours", "called", "ratio", "inlined", "ratio"])?;
     for reading in &READINGS {
         let names: Vec<&str> = reading.ordinary.iter().map(|other| other.name).collect();
         for (mix, blocks) in reading.blocks(random) {
-            let times = time_passes(&reading.passes(), &blocks);
-            let (called, inlined) = times[1..].split_at(names.len());
-            let [called, to_called] = beside(times[0], &names, called);
-            let [inlined, to_inlined] = beside(times[0], &names, inlined);
-            row(&[reading.what, &mix, &figure(times[0]), &called, &to_called, &inlined, &to_inlined])?;
+            row_beside_both(reading.what, &mix, &names, &time_passes(&reading.passes(), &blocks))?;
         }
     }
     Ok(())
@@ -319,7 +301,7 @@ fn table_of_strict(random: &mut Random) -> io::Result<()> {
 /// Our times in blocks of growing size.
 fn table_of_growth(random: &mut Random) -> io::Result<()> {
     head(&["what", "numbers", "4 KB", "8 KB", "16 KB", "32 KB", "64 KB"])?;
-    let pass = |pass: Pass| move |blocks: &[Block]| time_passes(&vec![("ours", pass)], blocks)[0];
+    let pass = |pass: Pass| move |blocks: &[Block]| time_passes(&[("ours", pass)], blocks)[0];
     let strict = |blocks: &[Block]| time_strict(&strict_readers()[..1], blocks)[0];
     let ours: [(&str, &dyn Fn(&[Block]) -> f64); 3] =
         [(STEP_UNSIGNED.what, &pass(STEP_UNSIGNED.pass)), (READ_U64.what, &pass(READ_U64.pass)), ("`read_strict`", &strict)];

@@ -1,5 +1,5 @@
 //! Lengths and writers. A pass goes over a list of 4,096 numbers.
-use crate::common::{differ, head, row_beside, time, Check, Mix, Random, MIXES, SAMPLES};
+use crate::common::{head, row_beside, time, Check, Mix, Random, MIXES, SAMPLES};
 use crate::ordinary::writing::{self as ordinary, Written};
 use crate::ordinary::LIST_LIMIT;
 use crate::ours;
@@ -86,21 +86,6 @@ const WIDTHS: [Width; 3] = [
 
 // ---- both sides answer alike
 
-/// All answers of the writers, each with the buffer that it leaves.
-fn agree<F: Fn(&mut [u8]) -> Written>(check: &mut Check, what: impl Fn() -> String, size: usize, writers: &[(&str, F)]) {
-    let marked: Vec<u8> = (0..size).map(|i| 0xa5 ^ i as u8).collect();
-    let mut answers = writers.iter().map(|(name, write)| {
-        let mut buffer = marked.clone();
-        let written = write(&mut buffer);
-        if written.is_err() && buffer != marked {
-            differ(&format!("{}: a refused write changed a byte", what()), name);
-        }
-        (*name, (written, buffer))
-    });
-    let (_, ours) = answers.next().unwrap();
-    check.agree(&what, ours, answers);
-}
-
 /// Numbers on both sides of each growth value, and many of each length.
 fn numbers(random: &mut Random) -> Vec<u64> {
     let mut numbers = vec![0, 1, u64::MAX];
@@ -121,7 +106,7 @@ fn check_number(check: &mut Check, width: &Width, v: u64) {
     // Room that is short by one, just fits, and is ample; the place at the front, behind it, at the end and past it.
     for (size, at) in [(0, 0), (ours - 1, 0), (ours, 0), (ours + 1, 0), (ours + 2, 3), (ours + 3, 3), (20, 3), (5, 5), (5, 6), (0, usize::MAX)] {
         let writers: Vec<_> = width.writers.iter().map(|(name, write)| (*name, move |buffer: &mut [u8]| write(v, buffer, at))).collect();
-        agree(check, || format!("{v} as {} at {at} of {size}", width.name), size, &writers);
+        check.agree_on_bytes(|| format!("{v} as {} at {at} of {size}", width.name), size, &writers);
     }
 }
 
@@ -131,12 +116,12 @@ fn check_list(check: &mut Check, mix: &str, numbers: &[u64]) {
     let others = LENGTHS[1..].iter().map(|(name, lengths)| (*name, lengths(numbers)));
     check.agree(|| format!("lengths of {n} numbers of {mix}"), total, others);
     let passes = WRITES.map(|(name, writes)| (name, move |buffer: &mut [u8]| Ok(writes(numbers, buffer))));
-    agree(check, || format!("{n} numbers of {mix}, one by one"), total, &passes);
+    check.agree_on_bytes(|| format!("{n} numbers of {mix}, one by one"), total, &passes);
     for size in [0, total.saturating_sub(1), total, total + 1, (10 * n).saturating_sub(1), 10 * n, 10 * n + 1] {
         for (at, more) in [(0, 0), (3, 3), (3, 2), (size, 0), (size + 1, 0), (usize::MAX, 0)] {
             let size = size + more;
             let writers = WRITE_LISTS.map(|(name, write)| (name, move |buffer: &mut [u8]| write(numbers, buffer, at)));
-            agree(check, || format!("{n} numbers of {mix} at {at} of {size}"), size, &writers);
+            check.agree_on_bytes(|| format!("{n} numbers of {mix} at {at} of {size}"), size, &writers);
         }
     }
 }

@@ -1,4 +1,5 @@
 //! What somebody would write without proof: the same answers, for every input.
+pub mod entries;
 pub mod phrases;
 pub mod reading;
 pub mod writing;
@@ -16,4 +17,5 @@ pub const NO_ROOM: u8 = 5;
 pub const NOT_A_START: u8 = 6;
 pub const TOO_LONG: u8 = 7;
 pub const NO_START: u8 = 8;
+pub const ENTRY: u8 = 10;
 pub const TREE: u8 = 13;

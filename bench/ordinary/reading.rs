@@ -12,7 +12,7 @@ pub type Pass = fn(&[u8]) -> u64;
 // ---- widths
 
 /// What u64, u32 and i64 differ in.
-trait Width: From<u8> + BitOrAssign + Shl<usize, Output = Self> {
+pub(super) trait Width: From<u8> + BitOrAssign + Shl<usize, Output = Self> {
     /// The most bytes.
     const MOST: usize;
 
@@ -123,7 +123,7 @@ fn by_loop<T: Width>(bytes: &[u8], at: usize) -> Read<T> {
 
 /// A test for one small byte first.
 #[inline(always)]
-fn by_small<T: Width>(bytes: &[u8], at: usize) -> Read<T> {
+pub(super) fn by_small<T: Width>(bytes: &[u8], at: usize) -> Read<T> {
     match bytes.get(at) {
         Some(&b) if b < 128 => Ok((T::of_bits(T::from(b), 1, b), 1)),
         _ => by_loop(bytes, at),
@@ -332,7 +332,7 @@ pub enum Step {
     Finished(usize),
 }
 
-fn within(block: &[u8], at: usize) -> Result<(), u8> {
+pub(super) fn within(block: &[u8], at: usize) -> Result<(), u8> {
     if block.len() > BLOCK_LIMIT {
         return Err(TOO_LONG);
     }

@@ -27,7 +27,7 @@ fn by_sevens(v: u64) -> usize {
 
 /// The same without a division by seven, as in the crate prost.
 #[inline(always)]
-fn by_bits(v: u64) -> usize {
+pub(super) fn by_bits(v: u64) -> usize {
     let bits = 64 - (v | 1).leading_zeros() as usize;
     (bits * 9 + 64) / 64
 }
@@ -51,13 +51,13 @@ pub fn lengths_by_bits(numbers: &[u64]) -> usize {
 
 /// The part of the buffer that so many bytes take at the place.
 #[inline(always)]
-fn room(buffer: &mut [u8], at: usize, n: usize) -> Result<&mut [u8], u8> {
+pub(super) fn room(buffer: &mut [u8], at: usize, n: usize) -> Result<&mut [u8], u8> {
     buffer.get_mut(at..).and_then(|behind| behind.get_mut(..n)).ok_or(NO_ROOM)
 }
 
 /// Stores the number's bytes from the place on, and gives the place behind them.
 #[inline(always)]
-fn put_by_index(v: u64, out: &mut [u8], at: usize) -> usize {
+pub(super) fn put_by_index(v: u64, out: &mut [u8], at: usize) -> usize {
     let (mut rest, mut to) = (v, at);
     while rest >= 128 {
         out[to] = rest as u8 | 128;

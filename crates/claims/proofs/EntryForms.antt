@@ -1,57 +1,46 @@
 -- What a good entry's bytes are: exactly the forms of its numbers, one after another behind the mark, and no mark among them.
 --
---   mark-unread                by either rule a mark is refused by 3, decided by its second byte
 --   number-form, form-number   a group that a kind's field reads as a number is its form, and back
 --   good-forms, forms-good     bytes are those of a good entry exactly where they are the forms of numbers of their widths
 --   good-form, one-form        the same of an entry with its mark; a form is of one entry
 --   form-stands                an entry's form alone is an entry: no mark stands among the forms
 --   written-back               so an entry written alone reads back
-use Prim.Native.Nat.{ℕ, _+_, _-_, _^_, _≤_, _<_}
+use Prim.Native.Nat.{ℕ, _+_, _-_, _^_, _≤_}
 use mathlib.Core.Path.{_≡_, refl, ap, sym, _∙_, subst}
 use mathlib.Core.List.{List, [], _∷_, _++_}
-use mathlib.Core.Logic.{inr, ⊎-elim}
+use mathlib.Core.Logic.{inr}
 use native.Mathlib.Omega.{arith}
-use lib.ListN.{length, getD, take, drop, take-append-drop, List·getD-append}
-use lib.Seq.{take-length, take-take, drop-append-add}
+use lib.ListN.{length, take, drop, take-append-drop}
+use lib.Seq.{take-length, take-take}
 use Rattle.words.specs.Answer.{gives}
 use Rattle.words.specs.declared.Written.the-variants as W
-use Rattle.words.proofs.Cases.{by-order}
 use Rattle.words.proofs.LaysExactly.{laid-there}
 use Rattle.words.proofs.OneMeaning.{apart}
-use Rattle.groups.specs.Group.{Group, run}
-use Rattle.groups.specs.Width.{runsOut, tooLarge, tooMany, reading}
+use Rattle.groups.specs.Group.{Group}
+use Rattle.groups.specs.Width.{reading}
 use Rattle.groups.proofs.Exact.{group-length}
-use Rattle.groups.proofs.Run.{in-run}
 use Rattle.groups.proofs.Spelling.{spelled-group}
 use Rattle.groups.proofs.Stands.{reading-count}
 use Rattle.uleb128.specs.Unsigned as unsigned-code
 use Rattle.uleb128.proofs.Forms as unsigned-forms
 use Rattle.sleb128.specs.Signed as signed-code
 use Rattle.sleb128.proofs.Forms as signed-forms
-use Rattle.blocks.specs.Block.{Val, unsigned, signed, valued, readBy, blockLimit}
-use Rattle.blocks.specs.GroupsAndTail.{GroupAt}
-use Rattle.blocks.specs.declared.Rule.{Rule}
-use Rattle.blocks.specs.declared.Rule.the-variants.{Unsigned, Signed}
+use Rattle.blocks.specs.Block.{Val, unsigned, signed, valued, blockLimit}
 use Rattle.blocks.proofs.FromStart.{front-start}
-use Rattle.blocks.proofs.Local.{groups-local}
 use Rattle.entries.specs.Standing.{mark, EntryAt}
 use Rattle.entries.specs.Saying.{fields, Says, nothing, field, numbersOf, Good, good, is-good, formsOf}
 use Rattle.entries.specs.Promise.{ReadsEntry, entryForm}
 use Rattle.entries.specs.declared.Entry.{Entry}
 use Rattle.entries.specs.declared.ReadEntry.the-variants as R
-use Rattle.entries.proofs.NextMarks.{mark-group, mark-inside, next-here}
-use Rattle.entries.proofs.SaysGroups.{given, by-answer, one-front, one-said, same-numbers}
+use Rattle.entries.proofs.NextMarks.{mark-group, next-here}
+use Rattle.entries.proofs.NoMarkInside.{fields-refuse, no-mark-said, part-behind}
+use Rattle.entries.proofs.SaysGroups.{given, by-answer, one-said, same-numbers}
 use Rattle.entries.proofs.OneEntry.{same-entry, one-answered, reads-first}
 use Rattle.entries.proofs.PutEntry.{form-ten, signed-ten, entry-takes}
 use Rattle.claims.specs.Kinds.{Kind, loop64, signed64, Value, width, form, OfWidth}
-use Rattle.claims.specs.OfEntries.{OfWidths, GoodForm, OneForm, WrittenBack, MarkUnread}
+use Rattle.claims.specs.OfEntries.{OfWidths, GoodForm, OneForm, WrittenBack}
 use Rattle.claims.proofs.ReadGroup.{read-group}
 use Rattle.claims.proofs.Readers.{mag-of-within}
-
-pub mark-unread : MarkUnread
-unfolding reading runsOut run tooLarge tooMany
-mark-unread Unsigned = refl
-mark-unread Signed = refl
 
 -- a field of a kind, which tells a number of the kind as a value
 module _ (k : Kind) (tell : Value k → Val) where
@@ -75,7 +64,7 @@ unsigned-group v = spelled-group (omega arith) (unsigned-forms.form-spelled v)
 signed-group : (v : Value signed64) → Group (signed-code.form v)
 signed-group v = spelled-group (omega arith) (signed-forms.form-spelled v)
 
-said-forms : {l : List ℕ} {a b : ℕ} {c : Value signed64} → Says fields l (unsigned a ∷ unsigned b ∷ signed c ∷ [])
+said-forms : {l : List ℕ} {a b : ℕ} {c : Value signed64} → Says fields l (unsigned a ∷ unsigned b ∷ signed c ∷ []) []
     → OfWidth loop64 a × OfWidth loop64 b × OfWidth signed64 c × (l ≡ formsOf (unsigned a ∷ unsigned b ∷ signed c ∷ []))
 said-forms (field r e (field r′ e′ (field r″ e″ nothing i″) i′) i) =
     let f = number-form loop64 unsigned (λ u q. cc) r e in
@@ -108,41 +97,7 @@ pub one-form : OneForm
 one-form x y h j e =
     let a : Good (formsOf (numbersOf x)) x = forms-good (formsOf (numbersOf x)) x h refl in
     let b : Good (formsOf (numbersOf x)) y = forms-good (formsOf (numbersOf x)) y j (ap (drop 2) e) in
-    same-numbers (one-said a b)
-
--- no mark stands in some bytes
-abbrev NoMark : List ℕ → Type 0
-NoMark l = (q : ℕ) → GroupAt l q mark → ⊥
-
-behind-part : (c b : List ℕ) (j : ℕ) → GroupAt (c ++ b) (length c + j) mark → GroupAt b j mark
-behind-part c b j k =
-    by-order 0 j (λ h. let e : 0 + j ≡ j = omega arith in rw e at (groups-local .after c [] b j mark h k))
-    (λ h.
-    let e : j ≡ 0 = omega arith in
-    rw e (record { start = front-start b; is-group = mark-group; there = ap (take 2) (sym (drop-append-add c b 0)) ∙ (rw e at (k .there)) }))
-
-none-in-group : {g rest : List ℕ} → Group g → (g ≡ mark → ⊥) → NoMark rest → NoMark (g ++ rest)
-none-in-group {g} {rest} r other none q k =
-    by-order q (length g)
-    (λ l. by-order 0 q
-    (λ h.
-    let low : getD (g ++ rest) (q - 1) 0 < 128 = ⊎-elim (λ (z : q ≡ 0). absurd (omega arith)) (λ (b : (0 < q) × (getD (g ++ rest) (q - 1) 0 < 128)). b .1) (k .start .behind) in
-    omega (arith, in-run g (q - 1) (omega (arith, group-length r)), List·getD-append g rest 0 (q - 1) (omega arith)))
-    (λ h.
-    let z : q ≡ 0 = omega arith in
-    let front : take 2 (g ++ rest) ≡ mark = rw z at (k .there) in
-    other (one-front {rest = rest} {more = drop 2 (g ++ rest)} r mark-group (sym (take-append-drop 2 (g ++ rest)) ∙ ap (λ (t : List ℕ). t ++ drop 2 (g ++ rest)) front) .0)))
-    (λ l. let i : q ≡ length g + (q - length g) = omega arith in none (q - length g) (behind-part g rest (q - length g) (subst (λ (n : ℕ). GroupAt (g ++ rest) n mark) i k)))
-
--- and none among the numbers of a good entry: each field refuses it
-other-than-mark : (rule : Rule) {g : List ℕ} {v : Val} → readBy rule g ≡ gives v → g ≡ mark → ⊥
-other-than-mark rule e z = apart (sym e ∙ ap (readBy rule) z ∙ mark-unread rule)
-
-said-no-mark : {l : List ℕ} {vs : List Val} → Says fields l vs → NoMark l
-said-no-mark (field r e (field r′ e′ (field r″ e″ nothing i″) i′) i) =
-    rw (i, i′, i″)
-    (none-in-group r (other-than-mark Unsigned e) (none-in-group r′ (other-than-mark Unsigned e′)
-    (none-in-group r″ (other-than-mark Signed e″) (λ q k. omega (arith, mark-inside k)))))
+    same-numbers (one-said a b .0)
 
 pub form-stands : (x : Entry) → OfWidths x → EntryAt (entryForm x) 0 (entryForm x)
 form-stands x h =
@@ -152,9 +107,7 @@ form-stands x h =
       there = take-length (mark ++ l);
       ends = record {
         from = omega arith;
-        none-before = λ q i j k.
-            let e : q ≡ 2 + (q - 2) = omega arith in
-            said-no-mark (forms-good l x h refl) (q - 2) (behind-part mark l (q - 2) (subst (λ (n : ℕ). GroupAt (mark ++ l) n mark) e k));
+        none-before = λ q i j k. no-mark-said fields-refuse (forms-good l x h refl) (q - 2) (omega arith) (part-behind (mark ++ l) 2 q i (omega arith) k);
         there = inr (omega arith);
       };
     }

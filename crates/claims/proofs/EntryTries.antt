@@ -17,10 +17,10 @@ use Rattle.entries.proofs.NextMarks.{mark-inside, mark-high, mark-start}
 use Rattle.entries.proofs.SaysGroups.{SaidBehind, behind-said, has-group}
 use Rattle.claims.specs.OfEntries.{EntryTries}
 
-front : {f : Field} {fs : List Field} {b : ℕ} {l : List ℕ} {vs : List Val} → b < 128 → Says (f ∷ fs) (b ∷ l) vs → SaidBehind f fs (b ∷ []) l vs
+front : {f : Field} {fs : List Field} {b : ℕ} {l rest : List ℕ} {vs : List Val} → b < 128 → Says (f ∷ fs) (b ∷ l) vs rest → SaidBehind f fs (b ∷ []) l vs rest
 front h x = behind-said (one h) refl x
 
-more : {b : ℕ} {l : List ℕ} {vs : List Val} → Says [] (b ∷ l) vs → ⊥
+more : {b : ℕ} {l : List ℕ} {vs : List Val} → Says [] (b ∷ l) vs [] → ⊥
 more x = elim x [ ]
 
 -- bytes behind the third group

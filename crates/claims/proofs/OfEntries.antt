@@ -19,11 +19,12 @@ use Rattle.entries.specs.Promise.{FirstEntry, Answered, row, found, meansReadEn
 use Rattle.entries.specs.declared.Entry.{Entry}
 use Rattle.entries.specs.declared.ReadEntry.the-variants as R
 use Rattle.entries.proofs.Standing.{one-entry, some-entry}
+use Rattle.entries.proofs.NoMarkInside.{mark-unread}
 use Rattle.entries.proofs.OneEntry.{same-entry, one-answered, some-answer, first-of, refused-by}
 use Rattle.entries.proofs.InOrder.{in-order}
 use Rattle.claims.specs.OfEntries.{GoodRead, BadRead, RefusesEntry, EntryOfMark, OfEntries}
 use Rattle.claims.proofs.EntryTries.{entry-tries}
-use Rattle.claims.proofs.EntryForms.{mark-unread, good-form, one-form, written-back}
+use Rattle.claims.proofs.EntryForms.{good-form, one-form, written-back}
 use Rattle.claims.proofs.EntryDamage.{entry-front, entry-back, entries-front, entries-back}
 
 entry-good : GoodRead

@@ -4,15 +4,14 @@
 --   none-heard                 at first, none was read
 --   number-heard               where the next field's number is read, it is one of them
 --   fault-heard                where its reading is refused, the bytes say nothing
---   more-heard                 nor where bytes are left behind the last field
---   all-heard                  else they say the numbers read
+--   all-heard                  behind the last field, they say the numbers read
 --   case-read                  what is read is what an answer's case says
-use Prim.Native.Nat.{ℕ, _+_, _≤_, _<_}
-use mathlib.Core.Path.{_≡_, refl, ap, sym, _∙_, subst}
+use Prim.Native.Nat.{ℕ, _+_, _≤_}
+use mathlib.Core.Path.{_≡_, refl, ap, sym, _∙_}
 use mathlib.Core.List.{List, [], _∷_, _++_, append-nil, append-assoc}
 use mathlib.Core.Bool.{false}
 use native.Mathlib.Omega.{arith}
-use lib.ListN.{length, drop, length-drop, drop-of-length-le}
+use lib.ListN.{length, drop}
 use lib.Seq.{drop-append-seam, drop-drop}
 use Rattle.words.specs.Answer.{Answer, gives, refused, Why}
 use Rattle.words.proofs.OneMeaning.{apart}
@@ -39,11 +38,11 @@ valued-given tell (refused k) e = apart (sym e)
 
 pub record Heard (all : List Field) (s : List ℕ) (at : ℕ) (left : List Field) (done : List Val) : Type 0 where
   pub within : at ≤ length s
-  pub onward : (vs : List Val) → Says left (drop at s) vs → Says all s (done ++ vs)
-  pub back : (us : List Val) → Says all s us → (vs : List Val) × Says left (drop at s) vs
+  pub onward : (vs : List Val) (rest : List ℕ) → Says left (drop at s) vs rest → Says all s (done ++ vs) rest
+  pub back : (us : List Val) (rest : List ℕ) → Says all s us rest → (vs : List Val) × Says left (drop at s) vs rest
 
 pub none-heard : (all : List Field) (s : List ℕ) → Heard all s 0 all []
-none-heard all s = record { within = omega arith; onward = λ vs x. x; back = λ us x. (us, x) }
+none-heard all s = record { within = omega arith; onward = λ vs rest x. x; back = λ us rest x. (us, x) }
 
 module _ {all : List Field} {s : List ℕ} (bytes : Bytes s) {at : ℕ} {left : List Field} {done : List Val} {A : Type 0} (w : Width A) (sound : Sound w)
     (tell : A → Val) (k : Heard all s at ((λ g. valued tell (reading w g)) ∷ left) done) where
@@ -64,29 +63,21 @@ module _ {all : List Field} {s : List ℕ} (bytes : Bytes s) {at : ℕ} {left : 
     pub number-heard : {to : ℕ} → to ≡ at + n → Heard all s to left (done ++ (tell v ∷ []))
     number-heard i = rw i (record {
       within = omega (arith, stands-through stands);
-      onward = λ vs x. rw (append-assoc done (tell v ∷ []) vs) (k .onward (tell v ∷ vs) (field (stands .is-group) reads x split));
-      back = λ us x. let y = k .back us x in let z = behind-said (stands .is-group) split (y .1) in (z .others, z .says);
+      onward = λ vs rest x. rw (append-assoc done (tell v ∷ []) vs) (k .onward (tell v ∷ vs) rest (field (stands .is-group) reads x split));
+      back = λ us rest x. let y = k .back us rest x in let z = behind-said (stands .is-group) split (y .1) in (z .others, z .says);
     })
 
-  unread : {why : Why} {vs : List Val} → read w s at ≡ refused why → Says ((λ g. valued tell (reading w g)) ∷ left) (drop at s) vs → ⊥
-  unread e (field {g = g} {rest = rest} r f x i) =
+  unread : {why : Why} {vs : List Val} {rest : List ℕ} → read w s at ≡ refused why → Says ((λ g. valued tell (reading w g)) ∷ left) (drop at s) vs rest → ⊥
+  unread e (field {g = g} {more = more} r f x i) =
       let y = valued-given tell (reading w g) f in
-      let d : read w s at ≡ gives (y .0) = read-from w s at (k .within) {a = gives (y .0)} (ap (reading w) i ∙ reading-front w rest r ∙ y .1) in
+      let d : read w s at ≡ gives (y .0) = read-from w s at (k .within) {a = gives (y .0)} (ap (reading w) i ∙ reading-front w more r ∙ y .1) in
       apart (sym d ∙ e)
 
-  pub fault-heard : {why : Why} → read w s at ≡ refused why → (us : List Val) → Says all s us → ⊥
-  fault-heard e us x = unread e (k .back us x .1)
+  pub fault-heard : {why : Why} → read w s at ≡ refused why → (us : List Val) (rest : List ℕ) → Says all s us rest → ⊥
+  fault-heard e us rest x = unread e (k .back us rest x .1)
 
-module _ {all : List Field} {s : List ℕ} {at : ℕ} {done : List Val} (k : Heard all s at [] done) where
-  none-left : {l : List ℕ} {vs : List Val} → Says [] l vs → length l ≡ 0
-  none-left nothing = refl
-
-  pub more-heard : at < length s → (us : List Val) → Says all s us → ⊥
-  more-heard h us x = omega (arith, none-left (k .back us x .1), length-drop at s)
-
-  pub all-heard : length s ≤ at → Says all s done
-  all-heard h =
-      rw (append-nil done) at (k .onward [] (subst (λ (l : List ℕ). Says [] l []) (sym (drop-of-length-le s h)) nothing))
+pub all-heard : {all : List Field} {s : List ℕ} {at : ℕ} {done : List Val} → Heard all s at [] done → Says all s done (drop at s)
+all-heard {s = s} {at = at} {done = done} k = rw (append-nil done) at (k .onward [] (drop at s) nothing)
 
 pub case-read : {A R : Type 0} (means : R → Answer A) {a : Answer A} {r q : R} → means r ≡ a → r ≡ q → a ≡ means q
 case-read means p e = sym p ∙ ap means e

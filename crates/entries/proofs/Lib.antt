@@ -1,6 +1,7 @@
 pub mod NextMarks
 pub mod Standing
 pub mod SaysGroups
+pub mod NoMarkInside
 pub mod Heard
 pub mod EntryReturns
 pub mod OneEntry

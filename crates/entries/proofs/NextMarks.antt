@@ -4,6 +4,7 @@
 --   mark-inside, mark-high, mark-low, mark-start   what a mark's bytes are, and the one before it
 --   mark-there                                     where they stand so, there is a mark
 --   mark-told                                      and behind a byte, that one tells
+--   ends-told                                      before the block's end, an entry can end exactly at a mark
 --   told-yes, told-no                              what a test tells
 --   next-within                                    the next mark, or the end, is no further than the end
 --   one-next                                       there is one next mark
@@ -25,7 +26,7 @@ use Rattle.bits.specs.Macros.{isHigh8BitSet}
 use Rattle.bits.proofs.HighBit.{bit-clear, bit-set}
 use Rattle.groups.specs.Group.{Group, one, more}
 use Rattle.blocks.specs.GroupsAndTail.{GroupAt}
-use Rattle.entries.specs.Standing.{mark, NextMark}
+use Rattle.entries.specs.Standing.{mark, EndsAt, NextMark}
 use Rattle.entries.specs.Inner.{Tells}
 
 pub mark-group : Group mark
@@ -117,6 +118,11 @@ mark-told s p {high} h a c some e =
     by-test (not high)
     (λ t. rw t (mark-there s p h a c (λ i. bit-clear e t)))
     (λ t. rw t (λ k. omega (arith, mark-start k some, bit-set {b = getD s (p - 1) 0} e t)))
+
+-- whether an entry can end at a place before the block's end
+pub ends-told : (s : List ℕ) (at : ℕ) (r : Bool) → at < length s → Tells (GroupAt s at mark) r → Tells (EndsAt s at) r
+ends-told s at true h k = inl k
+ends-told s at false h none = λ k. ⊎-elim none (λ e. omega arith) k
 
 -- whether a mark stands at a place
 mark-or-not : (s : List ℕ) (p : ℕ) → GroupAt s p mark ⊎ (GroupAt s p mark → ⊥)

@@ -5,26 +5,30 @@
 --   form-ten                  a number of 64 bits takes ten bytes at most; `signed-ten`: a signed one
 --   entry-takes               how many bytes an entry takes
 --   mark-put                  a mark stored
+--   small-put                 the one byte of a number below 128 stored
 --   number-put, number-fits   a number's form stored, the others are left; there is room for it
 use Prim.Native.Nat.{ℕ, _+_, _^_, _≤_, _<_}
-use mathlib.Core.Path.{_≡_, refl}
+use mathlib.Core.Path.{_≡_, refl, ap, sym, _∙_}
 use mathlib.Core.List.{List, [], _∷_}
+use native.Mathlib.Nat.{mod-eq-of-lt}
 use native.Mathlib.Numerals.{add-one}
 use native.Mathlib.Omega.{arith}
 use lib.IntN.{ℤ}
 use lib.ListN.{length, set, length-append}
+use lib.Seq.{sets}
 use lib.Signed.{mag}
 use Rattle.words.specs.Inner.{Puts}
 use Rattle.words.proofs.LaysInParts.{Laying, part-laid, rest-fits}
 use Rattle.words.specs.Lays.{Lays}
 use Rattle.words.specs.declared.Written.{Written}
+use Rattle.bits.specs.Macros.{takeLow7Bits}
 use Rattle.groups.specs.Form.{spelling}
 use Rattle.groups.specs.Promise.{Stores}
 use Rattle.groups.proofs.Spelling.{spelled-short}
 use Rattle.groups.specs.declared.Value.{Value}
 use Rattle.groups.specs.declared.Value.the-variants.{Unsigned, Signed}
 use Rattle.uleb128.specs.Unsigned.{form as unsignedForm}
-use Rattle.uleb128.proofs.Forms.{form-short}
+use Rattle.uleb128.proofs.Forms.{form-small, form-short}
 use Rattle.sleb128.specs.Signed.{form as signedForm}
 use Rattle.sleb128.proofs.Forms.{form-spelled}
 use Rattle.blocks.specs.Block.{Val, unsigned, signed}
@@ -60,6 +64,11 @@ entry-takes x =
 
 pub mark-put : (s : List ℕ) (at : ℕ) → Puts mark s at (at + 2) (set (set s at 128) (at + 1) 0)
 mark-put s at = record { leaves = rw add-one; behind = refl }
+
+pub small-put : (v : ℕ) (s : List ℕ) (at : ℕ) {bits : ℕ} → v < 128 → bits ≡ takeLow7Bits v → Puts (unsignedForm v) s at (at + 1) (set s at bits)
+small-put v s at h e =
+    let f : unsignedForm v ≡ v ∷ [] = form-small v h in
+    record { behind = ap (λ (g : List ℕ). at + length g) (sym f); leaves = ap (set s at) (e ∙ mod-eq-of-lt h) ∙ ap (sets s at) (sym f) }
 
 module _ {all s : List ℕ} {at : ℕ} {out : List ℕ} {to : ℕ} (v : Val) (vs : List Val) (g : Laying all s at out to (formsOf (v ∷ vs))) where
   pub number-put : {after : List ℕ} {p : ℕ} → Puts (formOf v) out to p after → Laying all s at after p (formsOf vs)

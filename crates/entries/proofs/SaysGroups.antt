@@ -5,20 +5,21 @@
 --   one-front      bytes have one group at their front
 --   SaidBehind     a field reads the group g as the first number, and the bytes behind it say the others
 --   behind-said    so it is where a group stands in front of bytes that say something
---   one-said       bytes say one thing
+--   one-said       bytes say one thing, and one thing stands behind it
 --   has-group      bytes that say a number have a group
---   says-or-not    and they do or they don't
+--   said-alone     what bytes begin with, those alone say that took it,
+--   said-within    and back
+--   says-or-not    bytes say something or they don't
 --   same-numbers   an entry is told by its numbers
---   nothing-said   bytes that say nothing are those of a bad entry
 --   one-verdict    there is one verdict on bytes
 --   some-verdict   and there is some
-use Prim.Native.Nat.{ℕ, _+_, _<_}
+use Prim.Native.Nat.{ℕ, _+_, _≤_, _<_}
 use mathlib.Core.Path.{_≡_, refl, ap, sym, _∙_, subst}
-use mathlib.Core.List.{List, [], _∷_, _++_}
+use mathlib.Core.List.{List, [], _∷_, _++_, append-assoc}
 use mathlib.Core.Logic.{_⊎_, inl, inr, ⊎-elim}
 use native.Mathlib.Omega.{arith}
 use lib.IntN.{ℤ, pos}
-use lib.ListN.{length, getD, take, drop, length-append, take-append-drop}
+use lib.ListN.{length, getD, take, drop, length-append, length-drop, take-append-drop}
 use lib.Seq.{take-append-seam, drop-append-seam, getD-drop}
 use Rattle.words.specs.Answer.{Answer, gives, refused, Why}
 use Rattle.words.proofs.Cases.{by-order}
@@ -30,7 +31,7 @@ use Rattle.groups.specs.Width.{reading}
 use Rattle.uleb128.specs.Unsigned.{u64}
 use Rattle.sleb128.specs.Signed.{i64}
 use Rattle.blocks.specs.Block.{Val, unsigned, signed, valued}
-use Rattle.entries.specs.Saying.{Field, fields, Says, nothing, field, numbersOf, Good, Verdict, good, bad, Judged, is-good, is-bad}
+use Rattle.entries.specs.Saying.{Field, fields, Says, nothing, field, numbersOf, Verdict, good, bad, Judged, is-good, is-bad}
 use Rattle.entries.specs.declared.Entry.{Entry}
 
 pub given : {A : Type 0} {a b : A} → _≡_ {A = Answer A} (gives a) (gives b) → a ≡ b
@@ -47,43 +48,66 @@ one-front {g} {h} {rest} {more} r q e =
       sym (drop-append-seam g rest) ∙ ap (drop (length g)) e ∙ ap (λ (i : ℕ). drop i (h ++ more)) n ∙ drop-append-seam h more,
     )
 
-pub record SaidBehind (f : Field) (fs : List Field) (g rest : List ℕ) (vs : List Val) : Type 0 where
+pub record SaidBehind (f : Field) (fs : List Field) (g more : List ℕ) (vs : List Val) (rest : List ℕ) : Type 0 where
   pub first : Val
   pub others : List Val
   pub reads : f g ≡ gives first
-  pub says : Says fs rest others
+  pub says : Says fs more others rest
   pub is : vs ≡ first ∷ others
 
-pub behind-said : {f : Field} {fs : List Field} {g rest l : List ℕ} {vs : List Val} → Group g → l ≡ g ++ rest → Says (f ∷ fs) l vs → SaidBehind f fs g rest vs
-behind-said {f = f} {fs = fs} r i (field {v = v} {vs = vs} q e x j) =
+pub behind-said : {f : Field} {fs : List Field} {g more l rest : List ℕ} {vs : List Val} → Group g → l ≡ g ++ more → Says (f ∷ fs) l vs rest
+    → SaidBehind f fs g more vs rest
+behind-said {f = f} {fs = fs} {rest = rest} r i (field {v = v} {vs = vs} q e x j) =
     let w = one-front q r (sym j ∙ i) in
-    record { first = v; others = vs; reads = ap f (sym (w .0)) ∙ e; says = subst (λ (l : List ℕ). Says fs l vs) (w .1) x; is = refl }
+    record { first = v; others = vs; reads = ap f (sym (w .0)) ∙ e; says = subst (λ (l : List ℕ). Says fs l vs rest) (w .1) x; is = refl }
 
-pub one-said : {fs : List Field} {l : List ℕ} {vs us : List Val} → Says fs l vs → Says fs l us → vs ≡ us
-one-said nothing nothing = refl
+pub one-said : {fs : List Field} {l rest rest′ : List ℕ} {vs us : List Val} → Says fs l vs rest → Says fs l us rest′ → (vs ≡ us) × (rest ≡ rest′)
+one-said nothing nothing = (refl, refl)
 one-said (field {v = v} {vs = vs} r e x i) y =
     let w = behind-said r i y in
-    ap (λ (u : Val). u ∷ vs) (given (sym e ∙ w .reads)) ∙ ap (λ (us : List Val). w .first ∷ us) (one-said x (w .says)) ∙ sym (w .is)
+    let h = one-said x (w .says) in
+    (ap (λ (u : Val). u ∷ vs) (given (sym e ∙ w .reads)) ∙ ap (λ (us : List Val). w .first ∷ us) (h .0) ∙ sym (w .is), h .1)
 
-pub has-group : {f : Field} {fs : List Field} {l : List ℕ} {vs : List Val} → Says (f ∷ fs) l vs → run l < length l
-has-group (field {g = g} {rest = rest} r e x i) = omega (arith, group-length r, run-behind rest r, ap run i, ap length i, length-append g rest)
+pub has-group : {f : Field} {fs : List Field} {l rest : List ℕ} {vs : List Val} → Says (f ∷ fs) l vs rest → run l < length l
+has-group (field {g = g} {more = more} r e x i) = omega (arith, group-length r, run-behind more r, ap run i, ap length i, length-append g more)
 
-pub says-or-not : (fs : List Field) (l : List ℕ) → Bytes l → ((vs : List Val) × Says fs l vs) ⊎ ((vs : List Val) → Says fs l vs → ⊥)
-says-or-not [] [] bytes = inl ([], nothing)
-says-or-not [] (b ∷ l) bytes = inr (λ vs x. elim x [ ])
+-- bytes that say something, without what stands behind it, and with more behind
+front-said : {fs : List Field} {l rest : List ℕ} {vs : List Val} → Says fs l vs rest → (front : List ℕ) × (l ≡ front ++ rest) × Says fs front vs []
+front-said nothing = ([], refl, nothing)
+front-said {rest = rest} (field {g = g} r e x i) =
+    let w = front-said x in
+    (g ++ w .0, i ∙ ap (λ (t : List ℕ). g ++ t) (w .1) ∙ sym (append-assoc g (w .0) rest), field r e (w .2) refl)
+
+pub said-alone : {fs : List Field} {l : List ℕ} {vs : List Val} (n : ℕ) → n ≤ length l → Says fs l vs (drop n l) → Says fs (take n l) vs []
+said-alone {fs} {l} {vs} n h x =
+    let w = front-said x in
+    let e : length (w .0) ≡ n = omega (arith, ap length (w .1), length-append (w .0) (drop n l), length-drop n l) in
+    let i : w .0 ≡ take n l = sym (take-append-seam (w .0) (drop n l)) ∙ ap (λ (k : ℕ). take k (w .0 ++ drop n l)) e ∙ ap (take n) (sym (w .1)) in
+    subst (λ (t : List ℕ). Says fs t vs []) i (w .2)
+
+longer : {fs : List Field} {l rest : List ℕ} {vs : List Val} (more : List ℕ) → Says fs l vs rest → Says fs (l ++ more) vs (rest ++ more)
+longer more nothing = nothing
+longer more (field {g = g} {more = behind} r e x i) = field r e (longer more x) (ap (λ (t : List ℕ). t ++ more) i ∙ append-assoc g behind more)
+
+pub said-within : {fs : List Field} {l : List ℕ} {vs : List Val} (n : ℕ) → Says fs (take n l) vs [] → Says fs l vs (drop n l)
+said-within {fs} {l} {vs} n x = subst (λ (t : List ℕ). Says fs t vs (drop n l)) (take-append-drop n l) (longer (drop n l) x)
+
+pub says-or-not : (fs : List Field) (l : List ℕ) → Bytes l
+    → ((vs : List Val) × (rest : List ℕ) × Says fs l vs rest) ⊎ ((vs : List Val) (rest : List ℕ) → Says fs l vs rest → ⊥)
+says-or-not [] l bytes = inl ([], l, nothing)
 says-or-not (f ∷ fs) l bytes =
     by-order (run l) (length l)
     (λ h.
     let g = take (run l + 1) l in
-    let rest = drop (run l + 1) l in
+    let more = drop (run l + 1) l in
     let r : Group g = front-group l bytes h in
-    let i : l ≡ g ++ rest = sym (take-append-drop (run l + 1) l) in
+    let i : l ≡ g ++ more = sym (take-append-drop (run l + 1) l) in
     by-answer (f g)
-    (λ v e. ⊎-elim (λ (x : (vs : List Val) × Says fs rest vs). inl (v ∷ x .0, field r e (x .1) i))
-    (λ (none : (vs : List Val) → Says fs rest vs → ⊥). inr (λ vs x. let w = behind-said r i x in none (w .others) (w .says)))
-    (says-or-not fs rest (λ j. rw (getD-drop (run l + 1) l j 0) (bytes (run l + 1 + j)))))
-    (λ k e. inr (λ vs x. apart (sym (behind-said r i x .reads) ∙ e))))
-    (λ h. inr (λ vs x. omega (arith, has-group x)))
+    (λ v e. ⊎-elim (λ (x : (vs : List Val) × (rest : List ℕ) × Says fs more vs rest). inl (v ∷ x .0, x .1, field r e (x .2) i))
+    (λ (none : (vs : List Val) (rest : List ℕ) → Says fs more vs rest → ⊥). inr (λ vs rest x. let w = behind-said r i x in none (w .others) rest (w .says)))
+    (says-or-not fs more (λ j. rw (getD-drop (run l + 1) l j 0) (bytes (run l + 1 + j)))))
+    (λ k e. inr (λ vs rest x. apart (sym (behind-said r i x .reads) ∙ e))))
+    (λ h. inr (λ vs rest x. omega (arith, has-group x)))
 
 -- the way back from an entry's numbers
 natural : Val → ℕ
@@ -116,23 +140,26 @@ unfolding integer
 is-signed (gives x) e = rw (← (given e))
 is-signed (refused k) e = apart (sym e)
 
-says-entry : {l : List ℕ} {vs : List Val} → Says fields l vs → Good l (entryOf vs)
+says-entry : {l rest : List ℕ} {vs : List Val} → Says fields l vs rest → Says fields l (numbersOf (entryOf vs)) rest
 says-entry (field {g = g} {v = v} r e (field {g = g′} {v = v′} r′ e′ (field {g = g″} {v = v″} r″ e″ nothing i″) i′) i) =
     let a : unsigned (natural v) ≡ v = is-unsigned (reading u64 g) e in
     let b : unsigned (natural v′) ≡ v′ = is-unsigned (reading u64 g′) e′ in
     let c : signed (integer v″) ≡ v″ = is-signed (reading i64 g″) e″ in
     rw (a, b, c) (field r e (field r′ e′ (field r″ e″ nothing i″) i′) i)
 
-pub nothing-said : {l : List ℕ} → ((vs : List Val) → Says fields l vs → ⊥) → Judged l bad
-nothing-said none = is-bad (λ x. none (numbersOf x))
-
 pub one-verdict : {l : List ℕ} {v w : Verdict} → Judged l v → Judged l w → v ≡ w
-one-verdict (is-good x) (is-good y) = ap good (same-numbers (one-said x y))
+one-verdict (is-good x) (is-good y) = ap good (same-numbers (one-said x y .0))
 one-verdict (is-good {x = x} p) (is-bad none) = absurd (none x p)
 one-verdict (is-bad none) (is-good {x = x} p) = absurd (none x p)
 one-verdict (is-bad none) (is-bad also) = refl
 
+-- numbers are all that there is, or bytes stand behind them
+all-or-more : {l : List ℕ} {x : Entry} (rest : List ℕ) → Says fields l (numbersOf x) rest → (v : Verdict) × Judged l v
+all-or-more {x = x} [] y = (good x, is-good y)
+all-or-more (b ∷ rest) y = (bad, is-bad (λ x z. let e : _≡_ {A = ℕ} 0 (length (b ∷ rest)) = ap length (one-said z y .1) in omega arith))
+
 pub some-verdict : (l : List ℕ) → Bytes l → (v : Verdict) × Judged l v
 some-verdict l bytes =
-    ⊎-elim (λ (x : (vs : List Val) × Says fields l vs). (good (entryOf (x .0)), is-good (says-entry (x .1))))
-    (λ (none : (vs : List Val) → Says fields l vs → ⊥). (bad, nothing-said none)) (says-or-not fields l bytes)
+    ⊎-elim (λ (x : (vs : List Val) × (rest : List ℕ) × Says fields l vs rest). all-or-more (x .1) (says-entry (x .2)))
+    (λ (none : (vs : List Val) (rest : List ℕ) → Says fields l vs rest → ⊥). (bad, is-bad (λ x. none (numbersOf x) [])))
+    (says-or-not fields l bytes)

@@ -2,9 +2,9 @@
 --
 --   Field              how a field's group is read: its number, or a refusal
 --   fields             the fields of an entry, in their order: segment, sentence, turn
---   Says fs l vs       the bytes l are one group for each of the fields fs, in order, and nothing else; each reads, and vs are the numbers
+--   Says fs l vs rest  the bytes l begin with one group for each of the fields fs, in order; each reads, vs are the numbers, and rest stands behind
 --   numbersOf x        the numbers of the entry x, in the order of its fields
---   Good l x           the bytes l are those of a good entry, and it says x
+--   Good l x           the bytes l are those of a good entry, which says x: the groups of its fields all read, and nothing else is there
 --   Verdict            what there is to say of an entry: good, with what it says; or bad
 --   Judged l v         v is the verdict on the bytes l
 --   formOf, formsOf    the shortest form of a number, and those of several, one after another
@@ -25,16 +25,16 @@ Field = List ℕ → Answer Val
 abbrev pub fields : List Field
 fields = readBy Unsigned ∷ readBy Unsigned ∷ readBy Signed ∷ []
 
-pub data Says : List Field → List ℕ → List Val → Type 0 where
-  nothing : Says [] [] []
-  field : {f : Field} {fs : List Field} {g rest l : List ℕ} {v : Val} {vs : List Val}
-      → Group g → f g ≡ gives v → Says fs rest vs → l ≡ g ++ rest → Says (f ∷ fs) l (v ∷ vs)
+pub data Says : List Field → List ℕ → List Val → List ℕ → Type 0 where
+  nothing : {l : List ℕ} → Says [] l [] l
+  field : {f : Field} {fs : List Field} {g more l rest : List ℕ} {v : Val} {vs : List Val}
+      → Group g → f g ≡ gives v → Says fs more vs rest → l ≡ g ++ more → Says (f ∷ fs) l (v ∷ vs) rest
 
 abbrev pub numbersOf : Entry → List Val
 numbersOf x = unsigned (x .segment) ∷ unsigned (x .sentence) ∷ signed (x .turn) ∷ []
 
 abbrev pub Good : List ℕ → Entry → Type 0
-Good l x = Says fields l (numbersOf x)
+Good l x = Says fields l (numbersOf x) []
 
 pub data Verdict : Type 0 where
   good : Entry → Verdict

@@ -4,7 +4,7 @@ ghost use Prim.Native.Nat.{_<_, _≤_};
 ghost use lib.ListN.{length};
 ghost use Rattle.blocks.specs.GroupsAndTail.{GroupAt};
 ghost use Rattle.entries.specs.Inner.{Tells};
-ghost use Rattle.entries.specs.Standing.{mark, NextMark};
+ghost use Rattle.entries.specs.Standing.{mark, EndsAt, NextMark};
 
 // Whether a mark stands at the place. The byte before it tells whether a group can begin there.
 fn is_mark(block: &[u8], at: usize) -> bool
@@ -30,6 +30,17 @@ fn is_mark(block: &[u8], at: usize) -> bool
     let last = block[before];
     let more = is_high_8_bit_set(last);
     !more
+}
+
+// Whether an entry ends at the place: at a mark, or with the block.
+pub(crate) fn ends(block: &[u8], at: usize) -> bool
+    requires { ⌜ at ≤ length (now block) ⌝ }
+    ensures { λ r. ⌜ Tells (EndsAt (now (block .entry)) at) r ⌝ }
+{
+    if at < block.len() {
+        return is_mark(block, at);
+    }
+    true
 }
 
 // The place of the least mark at the place or later, or, where there is none, the block's end.

@@ -1,4 +1,4 @@
-// What an entry says: a number for each field, and nothing else.
+// What an entry says: a number for each field.
 use crate::Entry;
 use sleb128::ReadI64;
 use sleb128::read_i64;
@@ -7,13 +7,13 @@ use uleb128::read_u64;
 use words::Place;
 ghost use Rattle.entries.specs.Inner.{Hears};
 
-// What the bytes behind a mark say.
+// What bytes begin with: the numbers of an entry, in so many bytes; or one of them is missing or doesn't read.
 pub(crate) enum Said {
-    Numbers(Entry),
+    Numbers(Entry, usize),
     Fault,
 }
 
-// What all these bytes say, from behind a mark on.
+// What these bytes, from behind a mark on, begin with.
 pub(crate) fn hear(bytes: &[u8]) -> Said
     ensures { λ r. ⌜ Hears (now (bytes .entry)) r ⌝ }
 {
@@ -30,15 +30,13 @@ pub(crate) fn hear(bytes: &[u8]) -> Said
                         ReadI64::Refused(_, _) => Said::Fault,
                         ReadI64::Number(turn, count3) => {
                             let n3 = count3.0;
-                            let end = third + n3;
-                            if end < bytes.len() {
-                                return Said::Fault;
-                            }
-                            Said::Numbers(Entry {
+                            let all = third + n3;
+                            let entry = Entry {
                                 segment,
                                 sentence,
                                 turn,
-                            })
+                            };
+                            Said::Numbers(entry, all)
                         }
                     }
                 }

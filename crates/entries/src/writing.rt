@@ -1,8 +1,10 @@
 // Writing an entry: the room is known before the first byte is stored.
 use crate::Entry;
+use bits::take_low_7_bits;
 use groups::Value;
 use groups::store;
 use sleb128::length_i64;
+use uleb128::ONE_BYTE;
 use uleb128::length_u64;
 use words::Count;
 use words::Place;
@@ -13,6 +15,7 @@ ghost use Prim.Native.Nat.{_+_, _≤_};
 ghost use lib.ListN.{length};
 ghost use Rattle.words.specs.Inner.{Puts};
 ghost use Rattle.words.specs.Lays.{Takes};
+ghost use Rattle.uleb128.specs.Unsigned.{form as unsignedForm};
 ghost use Rattle.blocks.specs.Promise.{meansValue};
 ghost use Rattle.entries.specs.Saying.{formOf};
 ghost use Rattle.entries.specs.Standing.{mark};
@@ -55,13 +58,26 @@ fn put(number: Value, buffer: &mut [u8], at: usize) -> usize
     }
 }
 
+// Most numbers take one byte, and that is tested first.
+fn put_u64(v: u64, buffer: &mut [u8], at: usize) -> usize
+    requires { ⌜ at + length (unsignedForm v) ≤ length (now buffer) ⌝ }
+    ensures { λ r. ⌜ Puts (unsignedForm v) (now (buffer .entry)) at r (now (buffer .exit)) ⌝ }
+{
+    if v < ONE_BYTE {
+        let bits = take_low_7_bits(v);
+        buffer[at] = bits;
+        return at + 1;
+    }
+    put(Value::Unsigned(v), buffer, at)
+}
+
 fn put_entry(entry: Entry, buffer: &mut [u8], at: usize) -> usize
     requires { ⌜ at + length (entryForm entry) ≤ length (now buffer) ⌝ }
     ensures { λ r. ⌜ Puts (entryForm entry) (now (buffer .entry)) at r (now (buffer .exit)) ⌝ }
 {
     let first = put_mark(buffer, at);
-    let second = put(Value::Unsigned(entry.segment), buffer, first);
-    let third = put(Value::Unsigned(entry.sentence), buffer, second);
+    let second = put_u64(entry.segment, buffer, first);
+    let third = put_u64(entry.sentence, buffer, second);
     put(Value::Signed(entry.turn), buffer, third)
 }
 

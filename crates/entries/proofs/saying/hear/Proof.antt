@@ -12,9 +12,8 @@ use Rattle.sleb128.specs.Promise.{meansReadI64}
 use Rattle.sleb128.proofs.Widths as signed-widths
 use Rattle.blocks.specs.Block.{unsigned, signed, readBy}
 use Rattle.blocks.specs.declared.Rule.the-variants.{Unsigned, Signed}
-use Rattle.entries.specs.Saying.{fields, is-good}
-use Rattle.entries.proofs.SaysGroups.{nothing-said}
-use Rattle.entries.proofs.Heard.{Heard, none-heard, number-heard, fault-heard, more-heard, all-heard, case-read}
+use Rattle.entries.specs.Saying.{fields, numbersOf}
+use Rattle.entries.proofs.Heard.{Heard, none-heard, number-heard, fault-heard, all-heard, case-read}
 use Rattle.entries.proofs.saying.hear.Statement.{statement}
 use Rattle.entries.proofs.saying.hear.Tie as tie
 
@@ -57,38 +56,32 @@ third c =
 add-third : tie.Need-add-third
 add-third c = omega (arith, second (c .before) .within)
 
-add-end : tie.Need-add-end
-add-end c = omega (arith, third (c .before) .within)
+add-all : tie.Need-add-all
+add-all c = omega (arith, third (c .before) .within)
 
 returns : tie.Need-returns
-returns c = nothing-said (more-heard (third (c .before .before)) (c .if1 .taken))
+returns c = λ x.
+    fault-heard (λ i. opened (c .before .before) .shared-slice-known .given i .fits) u64 (unsigned-widths.sound 10 1 (omega arith) (omega arith)) unsigned
+    (none-heard fields _) (case-read meansReadU64 (c .before .before .read-u64 .ensures .is) (c .enum-told .given .1)) (numbersOf x)
 
 returns-2 : tie.Need-returns-2
-returns-2 c =
-    nothing-said
-    (fault-heard (λ i. opened (c .before .before) .shared-slice-known .given i .fits) u64 (unsigned-widths.sound 10 1 (omega arith) (omega arith)) unsigned
-    (none-heard fields _) (case-read meansReadU64 (c .before .before .read-u64 .ensures .is) (c .enum-told .given .1)))
+returns-2 c = λ x.
+    let s = segment (c .before .before) in
+    fault-heard (λ i. opened (s .before .before) .shared-slice-known .given i .fits) u64 (unsigned-widths.sound 10 1 (omega arith) (omega arith)) unsigned
+    (first s) (case-read meansReadU64 (c .before .before .read-u642 .ensures .is) (c .enum-told2 .given .1)) (numbersOf x)
 
 returns-3 : tie.Need-returns-3
-returns-3 c =
-    let s = segment (c .before .before) in
-    nothing-said
-    (fault-heard (λ i. opened (s .before .before) .shared-slice-known .given i .fits) u64 (unsigned-widths.sound 10 1 (omega arith) (omega arith)) unsigned
-    (first s) (case-read meansReadU64 (c .before .before .read-u642 .ensures .is) (c .enum-told2 .given .1)))
+returns-3 c = λ x.
+    let s = sentence (c .before .before) in
+    fault-heard (λ i. opened (segment (s .before .before) .before .before) .shared-slice-known .given i .fits) i64 signed-widths.sound signed
+    (second s) (case-read meansReadI64 (c .before .before .read-i64 .ensures .is) (c .enum-told3 .given .1)) (numbersOf x)
 
 returns-4 : tie.Need-returns-4
-returns-4 c =
-    let s = sentence (c .before .before) in
-    nothing-said
-    (fault-heard (λ i. opened (segment (s .before .before) .before .before) .shared-slice-known .given i .fits) i64 signed-widths.sound signed
-    (second s) (case-read meansReadI64 (c .before .before .read-i64 .ensures .is) (c .enum-told3 .given .1)))
-
-returns-5 : tie.Need-returns-5
-returns-5 c = rw (word-back _ (c .before .known-told3 .given .0 .1)) (is-good (all-heard (third (c .before .before)) (c .if1 .left)))
+returns-4 c = let t = third (c .before) in (t .within, rw (word-back _ (c .known-told3 .given .0 .1)) (all-heard t))
 
 pub hear-spec : {M : Type 1} → statement M
 hear-spec =
     tie.close
     (tie.spec (λ c κs. search needs) (λ c. search needs) (λ c. search needs) (λ c κs. search needs)
     (λ c. search needs) (λ c. search needs) add-third (λ c κs. search needs) (λ c. search needs) (λ c. search needs)
-    add-end returns returns-2 returns-3 returns-4 returns-5)
+    add-all returns returns-2 returns-3 returns-4)
