@@ -15,7 +15,7 @@ use lib.Seq.{take-length, take-take}
 use Rattle.words.specs.Answer.{gives}
 use Rattle.words.specs.declared.Written.the-variants as W
 use Rattle.words.proofs.LaysExactly.{laid-there}
-use Rattle.words.proofs.OneMeaning.{apart}
+use Rattle.words.proofs.OneMeaning.{apart, given, by-answer}
 use Rattle.groups.specs.Group.{Group}
 use Rattle.groups.specs.Width.{reading}
 use Rattle.groups.proofs.Exact.{group-length}
@@ -34,7 +34,7 @@ use Rattle.entries.specs.declared.Entry.{Entry}
 use Rattle.entries.specs.declared.ReadEntry.the-variants as R
 use Rattle.entries.proofs.NextMarks.{mark-group, next-here}
 use Rattle.entries.proofs.NoMarkInside.{fields-refuse, no-mark-said, part-behind}
-use Rattle.entries.proofs.SaysGroups.{given, by-answer, one-said, same-numbers}
+use Rattle.entries.proofs.SaysGroups.{one-said, same-numbers}
 use Rattle.entries.proofs.OneEntry.{same-entry, one-answered, reads-first}
 use Rattle.entries.proofs.PutEntry.{form-ten, signed-ten, entry-takes}
 use Rattle.claims.specs.Kinds.{Kind, loop64, signed64, Value, width, form, OfWidth}

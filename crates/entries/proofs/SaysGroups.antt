@@ -1,7 +1,5 @@
 -- What bytes say, group by group.
 --
---   given          what answers give is the same where they are
---   by-answer      a thing from either case of an answer
 --   one-front      bytes have one group at their front
 --   SaidBehind     a field reads the group g as the first number, and the bytes behind it say the others
 --   behind-said    so it is where a group stands in front of bytes that say something
@@ -21,9 +19,9 @@ use native.Mathlib.Omega.{arith}
 use lib.IntN.{ℤ, pos}
 use lib.ListN.{length, getD, take, drop, length-append, length-drop, take-append-drop}
 use lib.Seq.{take-append-seam, drop-append-seam, getD-drop}
-use Rattle.words.specs.Answer.{Answer, gives, refused, Why}
+use Rattle.words.specs.Answer.{Answer, gives, refused}
 use Rattle.words.proofs.Cases.{by-order}
-use Rattle.words.proofs.OneMeaning.{apart}
+use Rattle.words.proofs.OneMeaning.{apart, given, by-answer}
 use Rattle.groups.specs.Group.{Bytes, Group, run}
 use Rattle.groups.proofs.Exact.{group-length}
 use Rattle.groups.proofs.Stands.{front-group, run-behind}
@@ -33,13 +31,6 @@ use Rattle.sleb128.specs.Signed.{i64}
 use Rattle.blocks.specs.Block.{Val, unsigned, signed, valued}
 use Rattle.entries.specs.Saying.{Field, fields, Says, nothing, field, numbersOf, Verdict, good, bad, Judged, is-good, is-bad}
 use Rattle.entries.specs.declared.Entry.{Entry}
-
-pub given : {A : Type 0} {a b : A} → _≡_ {A = Answer A} (gives a) (gives b) → a ≡ b
-given e = cc
-
-pub by-answer : {A X : Type 0} (a : Answer A) → ((v : A) → a ≡ gives v → X) → ((k : Why) → a ≡ refused k → X) → X
-by-answer (gives v) given-so refused-so = given-so v refl
-by-answer (refused k) given-so refused-so = refused-so k refl
 
 pub one-front : {g h rest more : List ℕ} → Group g → Group h → g ++ rest ≡ h ++ more → (g ≡ h) × (rest ≡ more)
 one-front {g} {h} {rest} {more} r q e =

@@ -1,6 +1,8 @@
 -- An answer is determined by what it means, and a promise by its rows: what every crate's proofs of "one answer and no second" cite.
 --
 --   apart                      what was given is no refusal
+--   given                      answers that give are the same where they give the same
+--   by-answer                  a thing from either case of an answer
 --   refused-same               a refusal is told by its number,
 --   decided-same               and one with a place by its number and its place
 --   given-value, given-count   the parts of a number that was given
@@ -24,6 +26,13 @@ use Rattle.words.proofs.OneNumber.{refusalOf, refusal-back, same-refusa
 
 pub apart : {A X : Type 0} {a : A} {k : Why} → _≡_ {A = Answer A} (gives a) (refused k) → X
 apart e = let z : _≡_ {A = ℕ} 0 1 = cc in absurd (omega arith)
+
+pub given : {A : Type 0} {a b : A} → _≡_ {A = Answer A} (gives a) (gives b) → a ≡ b
+given e = cc
+
+pub by-answer : {A X : Type 0} (a : Answer A) → ((v : A) → a ≡ gives v → X) → ((k : Why) → a ≡ refused k → X) → X
+by-answer (gives v) given-so refused-so = given-so v refl
+by-answer (refused k) given-so refused-so = refused-so k refl
 
 pub refused-same : {A : Type 0} (a b : Refusal) → _≡_ {A = Answer A} (refused (because a)) (refused (because b)) → a ≡ b
 refused-same a b e = same-refusal a b (cc)
