@@ -4,6 +4,7 @@
 --   entry-front, entry-back      an entry stands and reads as before, in front of the stretch and behind it
 --   ordered-ending, in-ending    what is left of a list in order where only what ends early enough is kept
 --   ordered-less, in-less        the same where only what begins late enough is, its places less
+--   entry-kept                   an entry that stands elsewhere with the same bytes has the same count and verdict
 --   entries-front, entries-back  what a reader gives in each of the two parts is the same list
 use Prim.Native.Nat.{ℕ, suc, _+_, _-_, _≤_}
 use mathlib.Core.Path.{_≡_, refl, ap, sym, _∙_}
@@ -19,7 +20,7 @@ use Rattle.blocks.specs.Readings.{Block}
 use Rattle.blocks.proofs.Local.{ends-before, begins-behind}
 use Rattle.entries.specs.Standing.{EntryAt}
 use Rattle.entries.specs.Saying.{Verdict, good, bad, Judged}
-use Rattle.entries.specs.Promise.{ReadsEntry}
+use Rattle.entries.specs.Promise.{EntryIs, ReadsEntry}
 use Rattle.entries.specs.Given.{In, Ordered, EntriesFrom}
 use Rattle.entries.specs.declared.ReadEntry.{ReadEntry}
 use Rattle.entries.proofs.NextMarks.{next-here}
@@ -118,6 +119,9 @@ module _ {A : Type 0} (n : ℕ) where
             (λ (m : In (n + i, c, v) l). inr (in-less l i c v .1 m)) j,
       ))
 
+entry-kept : {s s′ : List ℕ} {m m′ n : ℕ} {v : Verdict} (k : EntryIs s m n v) → EntryAt s′ m′ (k .bytes) → EntryIs s′ m′ n v
+entry-kept k there = record { bytes = k .bytes; stands = there; count = k .count; judged = k .judged }
+
 pub entries-front : EntriesFront
 entries-front a x y b l l′ g g′ =
     let n = length a in
@@ -132,12 +136,7 @@ entries-front a x y b l l′ g g′ =
         in-ending 2 (length a) m′ k .1 (
           f′ .each (k .0) (k .1) (k .2) .1 (
             omega arith,
-            record {
-              bytes = e .bytes;
-              stands = ends-before entries-local a u w b (k .0) (e .bytes) (omega (arith, h .1, e .count)) .0 (e .stands);
-              count = e .count;
-              judged = e .judged;
-            },
+            entry-kept e (ends-before entries-local a u w b (k .0) (e .bytes) (omega (arith, h .1, e .count)) .0 (e .stands)),
           ),
           h .1,
         )
@@ -158,12 +157,7 @@ entries-back a x y b l l′ g g′ =
         let e = f .each (past u + k .0) (k .1) (k .2) .0 (in-less (past u) m (k .0) (k .1) (k .2) .0 i) .1 in
         in-less (past w) m′ (k .0) (k .1) (k .2) .1 (f′ .each (past w + k .0) (k .1) (k .2) .1 (
           omega arith,
-          record {
-            bytes = e .bytes;
-            stands =
-                begins-behind entries-local a u w b (past u + k .0) (past w + k .0) (e .bytes) (omega arith)
-                (omega (arith, length-append a u, length-append a w)) .0 (e .stands);
-            count = e .count;
-            judged = e .judged;
-          },
+          entry-kept e
+              (begins-behind entries-local a u w b (past u + k .0) (past w + k .0) (e .bytes) (omega arith)
+              (omega (arith, length-append a u, length-append a w)) .0 (e .stands)),
         ))
