@@ -4,7 +4,7 @@ use crate::common::{figure, head, row, row_beside, row_beside_both, shown, time,
 use crate::ordinary::entries::{self as ordinary, Entry, ReadEntry, MARK};
 use crate::ordinary::reading::Pass;
 use crate::ordinary::writing::Written;
-use crate::ordinary::BLOCK_LIMIT;
+use crate::ordinary::{BLOCK_LIMIT, ENTRY};
 use crate::ours;
 use std::io;
 use std::iter::{once, successors};
@@ -13,7 +13,7 @@ const SIZE: usize = 65_000;
 const ENTRIES: usize = 2000;
 
 /// The most bytes of an entry.
-const MOST: usize = 32;
+const MOST: usize = 24;
 
 /// The numbers of an entry, as the tables call them.
 const MIXES: [(&str, Mix); 3] = [("small", ONE_BYTE), ("mixed", NINE_IN_TEN), ("long", LONGEST)];
@@ -33,21 +33,43 @@ fn passes() -> Vec<(&'static str, Pass)> {
 
 // ---- blocks
 
-fn good(random: &mut Random, mix: &Mix) -> Vec<u8> {
-    let mut bytes = MARK.to_vec();
-    for kind in [U64, U64, I64] {
-        let n = (mix.bytes)(random, kind.most);
-        bytes.extend(kind.group(random, n));
-    }
-    bytes
+/// A turn of one byte, or of two where a number of the mix has more: none that passes is longer.
+fn turn(random: &mut Random, mix: &Mix) -> i64 {
+    let v = if (mix.bytes)(random, I64.most) == 1 { random.below(64) } else { 64 + random.below(336) };
+    [v as i64, !v as i64][random.below(2) as usize]
 }
 
-/// An entry with a number too few, one too many, or a group of three bytes or more that is none.
+/// One that doesn't pass, of two bytes or more.
+fn absurd_turn(random: &mut Random) -> i64 {
+    let n = 2 + random.below(9);
+    let turn = (I64.number)(random, n) as i64;
+    if (-400..=400).contains(&turn) { turn + 801 } else { turn }
+}
+
+fn entry(random: &mut Random, mix: &Mix) -> Entry {
+    let mut number = || {
+        let n = (mix.bytes)(random, U64.most);
+        (U64.number)(random, n)
+    };
+    let (segment, sentence) = (number(), number());
+    Entry { segment, sentence, turn: turn(random, mix) }
+}
+
+fn bytes_of(entry: &Entry) -> Vec<u8> {
+    [MARK.to_vec(), (U64.form)(entry.segment), (U64.form)(entry.sentence), (I64.form)(entry.turn as u64)].concat()
+}
+
+fn good(random: &mut Random, mix: &Mix) -> Vec<u8> {
+    bytes_of(&entry(random, mix))
+}
+
+/// An entry with a number too few, one too many, a group of three bytes or more that is none, or an absurd turn.
 fn bad(random: &mut Random, mix: &Mix) -> Vec<u8> {
     let mut bytes = good(random, mix);
-    match random.below(3) {
+    match random.below(4) {
         0 => bytes = [&MARK[..], &U64.group(random, 1), &U64.group(random, 1)].concat(),
         1 => bytes.extend(U64.group(random, 1)),
+        2 => bytes = bytes_of(&Entry { turn: absurd_turn(random), ..entry(random, mix) }),
         _ => {
             let n = 3 + random.below(18);
             let at = [MARK.len(), bytes.len()][random.below(2) as usize];
@@ -198,33 +220,38 @@ fn check_whole_passes(check: &mut Check, random: &mut Random) {
     }
 }
 
-fn entry(random: &mut Random, mix: &Mix) -> Entry {
-    let mut number = |kind: blocks::Kind| {
-        let n = (mix.bytes)(random, kind.most);
-        (kind.number)(random, n)
-    };
-    Entry { segment: number(U64), sentence: number(U64), turn: number(I64) as i64 }
-}
-
-/// All write an entry alike, and what is written reads back, alone and with a mark behind it.
+/// All write an entry alike, or refuse it; and its bytes read back, or are bad, alone and with a mark behind them.
 fn check_write(check: &mut Check, entry: &Entry) {
-    let mut buffer = [0; MOST + MARK.len()];
-    let n = ours::write_entry(entry, &mut buffer, 0).unwrap();
+    let mut bytes = bytes_of(entry);
+    let n = bytes.len();
     for (size, at) in [(0, 0), (n - 1, 0), (n, 0), (n + 1, 0), (n + 2, 3), (n + 3, 3), (40, 3), (5, 5), (5, 6), (0, usize::MAX)] {
         let writers = WRITERS.map(|(name, write)| (name, move |buffer: &mut [u8]| write(entry, buffer, at)));
         check.agree_on_bytes(|| format!("{entry:?} at {at} of {size}"), size, &writers);
     }
-    buffer[n..n + MARK.len()].copy_from_slice(&MARK);
+    bytes.extend(MARK);
+    let mut buffer = vec![0; n];
+    let read = match ours::write_entry(entry, &mut buffer, 0) {
+        Ok(count) => {
+            check.agree(|| format!("what was written of {entry:?}"), (count, &buffer[..]), [("its bytes", (n, &bytes[..n]))]);
+            ReadEntry::Good(*entry, n)
+        }
+        Err(_) => ReadEntry::Bad(ENTRY, n),
+    };
     for end in [n, n + MARK.len()] {
-        check.agree(|| format!("what was written of {entry:?}"), ours::read_entry(&buffer[..end], 0), [("the entry", ReadEntry::Good(*entry, n))]);
+        check.agree(|| format!("the bytes of {entry:?}"), &ours::read_entry(&bytes[..end], 0), [("the entry", &read)]);
     }
 }
 
 fn check_writes(check: &mut Check, random: &mut Random) {
     for (_, mix) in &MIXES {
         for _ in 0..4000 {
-            check_write(check, &entry(random, mix));
+            let entry = entry(random, mix);
+            check_write(check, &entry);
+            check_write(check, &Entry { turn: absurd_turn(random), ..entry });
         }
+    }
+    for turn in (-410..=410).chain([i64::MIN, i64::MIN + 1, i64::MAX - 1, i64::MAX]) {
+        check_write(check, &Entry { segment: 1, sentence: 2, turn });
     }
     let edges = (0..=63).flat_map(|k| [1 << k, (1 << k) - 1, !(1 << k), !((1 << k) - 1)]);
     for v in edges.clone() {

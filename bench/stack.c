@@ -15,7 +15,7 @@ extern size stack_read_phrase(const size *, size, size *, size);
 extern size stack_read_entry(const byte *, size, size, size *, size, long *, size);
 extern size stack_write_entry(size, size, long, byte *, size);
 
-enum { BLOCK = 65536, LIST = 16384, FORMS = 10 * LIST, TEXT = 17 + 28 * BLOCK, ENTRY = 32, REFUSALS = 100, PAINTED = 65536, PAINT = 0xa5 };
+enum { BLOCK = 65536, LIST = 16384, FORMS = 10 * LIST, TEXT = 17 + 28 * BLOCK, ENTRY = 24, REFUSALS = 100, PAINTED = 65536, PAINT = 0xa5 };
 
 static byte block[BLOCK], entries[BLOCK], buffer[FORMS], text[TEXT];
 static size slice[BLOCK], list[LIST], phrase[LIST];
@@ -51,14 +51,14 @@ static void make_phrase(size sort) {
     while (at < LIST) phrase[at++] = 10;
 }
 
-// What a block of entries is: this at its front, and then that again and again. A good entry of small numbers, and others behind it; a good one of
-// three numbers of ten bytes; bad ones: a mark and nothing, and numbers to the block's end; and no mark at all.
+// What a block of entries is: this at its front, and then that again and again. A good entry of small numbers, and others behind it; a good one as
+// long as may be; bad ones: a mark and nothing, and numbers to the block's end; and no mark at all.
 static const struct {
     byte front[ENTRY], rest[5];
     size front_length, rest_length;
 } blocks[SORTS] = {
     {{0}, {128, 0, 5, 5, 5}, 0, 5},
-    {{128, 0, 255, 255, 255, 255, 255, 255, 255, 255, 255, 1, 255, 255, 255, 255, 255, 255, 255, 255, 255, 1, 128, 128, 128, 128, 128, 128, 128, 128, 128, 127},
+    {{128, 0, 255, 255, 255, 255, 255, 255, 255, 255, 255, 1, 255, 255, 255, 255, 255, 255, 255, 255, 255, 1, 240, 124},
      {128, 0},
      ENTRY,
      2},
@@ -124,7 +124,7 @@ int main(void) {
             for (size i = 0; i < LIST; i++) list[i] = -sort; // of one byte, then of ten
             make_phrase(sort);
             make_entries(sort);
-            turn = list[0] & (size)1 << 63; // of one byte, then of ten
+            turn = sort == 0 ? 0 : -400; // of one byte, then of two
             size deep = taken(calls[c].call);
             if (deep > most) most = deep;
             if (answer >= REFUSALS) accepted++;

@@ -1,14 +1,14 @@
-//! The cases for entries opened by a mark: ops 23 and 24; and ops 12, 13, 15 and 18 on blocks with
-//! marks.
+//! The cases for entries opened by a mark and for their turns: ops 23 and 24; ops 12, 13, 15 and 18 on
+//! blocks with marks; and ops 4, 8, 11, 12, 13, 15, 17 and 18 on turns that are absurd in an entry.
 //!
 //!   whole   those that the repository holds
 //!   more    those of the large run
 
 use crate::blocks::MOST_OF_BLOCK;
 use crate::cases::{all_bytes, each_length, filler, numbers, FAR, SPREAD};
-use crate::entries::{Entry, MARK};
+use crate::entries::{Entry, HIGHEST_TURN, LOWEST_TURN, MARK};
 use crate::frames::{put, put_numbers, MOST_BYTES};
-use crate::numbers::{form, Rule};
+use crate::numbers::{form, power, Rule};
 use crate::random::Random;
 use Rule::*;
 
@@ -18,6 +18,12 @@ const STEPS: [u8; 2] = [12, 13];
 const STRICT: u8 = 15;
 const LISTING: u8 = 18;
 
+/// Of a signed number: the reader, the writer, the length, and what it means as a turn.
+const SIGNED_READ: u8 = 4;
+const SIGNED_WRITE: u8 = 8;
+const SIGNED_LENGTH: u8 = 11;
+const MEANING: u8 = 17;
+
 pub fn whole(input: &mut Vec<u8>) {
     let random = &mut Random(22);
     few_blocks(input);
@@ -26,11 +32,11 @@ pub fn whole(input: &mut Vec<u8>) {
             at_places(input, &[&MARK, &row], [0]);
         }
     }
-    for entry in ENTRIES {
+    for entry in all_entries() {
         hurt_groups(input, &entry);
         exchanged(input, &entry);
     }
-    each_byte(input, &SPREAD);
+    each_byte(input, &SMALL, &SPREAD);
     marks(input);
     tails(input, (1..=12).chain([20, 127, 128, 256]));
     hidden(input, 0..=12);
@@ -41,15 +47,23 @@ pub fn whole(input: &mut Vec<u8>) {
         input,
         &[100, 128, 251, 252, 254, 255, 256, 257, 258, 259, 300],
     );
-    for entry in &ENTRIES[..2] {
-        every_room(input, entry);
+    for entry in [SMALL, MIDDLE, BEYOND] {
+        every_room(input, &entry);
     }
-    some_rooms(input, &LONGEST);
+    for entry in [LONGEST, ABSURD] {
+        some_rooms(input, &entry);
+    }
     far_writes(input);
     odd_frames(input);
-    injuries(input, &STRETCHES[..12], &[&[], &[0x80], &MARK]);
+    injuries(
+        input,
+        &old_block(),
+        &STRETCHES[..12],
+        &[&[], &[0x80], &MARK],
+    );
     lost_fronts(input);
     plain(input);
+    turns(input);
     random_reads(input, random, 900);
     random_writes(input, random, 150);
 }
@@ -57,11 +71,11 @@ pub fn whole(input: &mut Vec<u8>) {
 pub fn more(input: &mut Vec<u8>) {
     let random = &mut Random(23);
     many_blocks(input, random);
-    for entry in ENTRIES {
+    for entry in all_entries() {
         hurt_pairs(input, &entry);
         every_room(input, &entry);
     }
-    each_byte(input, &all_bytes());
+    each_byte(input, &SMALL, &all_bytes());
     tails(input, 13..=300);
     hidden(input, 13..=40);
     bits(input);
@@ -69,24 +83,33 @@ pub fn more(input: &mut Vec<u8>) {
     distances(input, &(1..=600).collect::<Vec<usize>>());
     injuries(
         input,
+        &old_block(),
         &STRETCHES,
         &[&[], &[0x05], &[0x80], &[0x00], &MARK, &[0xff, 0xff, 0x01]],
     );
     random_injuries(input, random, 1_000);
     limits(input, random);
     long_writes(input);
+    many_turns(input, random);
     random_reads(input, random, 200_000);
     random_writes(input, random, 30_000);
 }
 
 // ---- entries
 
-/// One byte to each number; two or three, and a turn below zero; the longest.
-const ENTRIES: [Entry; 3] = [SMALL, MIDDLE, LONGEST];
-
+/// One byte to each number; two or three, and a turn below zero; the longest that is good.
 const SMALL: Entry = entry_of(1, 2, 3);
 const MIDDLE: Entry = entry_of(300, 70_000, -300);
-const LONGEST: Entry = entry_of(1 << 63, u64::MAX, i64::MIN);
+const LONGEST: Entry = entry_of(1 << 63, u64::MAX, LOWEST_TURN);
+
+/// With an absurd turn: the first that is one, in an entry that is good if it and the segment change
+/// places; and the longest entry that there is.
+const BEYOND: Entry = entry_of(400, 401, LOWEST_TURN - 1);
+const ABSURD: Entry = entry_of(1 << 63, u64::MAX, i64::MIN);
+
+fn all_entries() -> [Entry; 5] {
+    [SMALL, MIDDLE, LONGEST, BEYOND, ABSURD]
+}
 
 /// A neighbour, which differs from them.
 const OTHER: Entry = entry_of(7, 8, 9);
@@ -267,8 +290,8 @@ fn hurt_groups(input: &mut Vec<u8>, entry: &Entry) {
 }
 
 /// An entry behind a group and before a mark, with one byte replaced in turn by each of those given.
-fn each_byte(input: &mut Vec<u8>, bytes: &[u8]) {
-    let old = [&[0x05], &SMALL.bytes()[..], &MARK].concat();
+fn each_byte(input: &mut Vec<u8>, entry: &Entry, bytes: &[u8]) {
+    let old = [&[0x05], &entry.bytes()[..], &MARK].concat();
     for at in 0..old.len() {
         for byte in bytes {
             let (front, behind) = (&old[..at], &old[at + 1..]);
@@ -429,13 +452,15 @@ fn bits(input: &mut Vec<u8>) {
     }
 }
 
-/// The lowest and the highest numbers of each length, in all triples: read behind a group and before a
-/// mark, and written with a byte to spare.
+/// The lowest and the highest numbers of each length, and the turns on both sides of each limit, in
+/// all triples: read behind a group and before a mark, and written with a byte to spare.
 fn lengths(input: &mut Vec<u8>) {
+    let ends = each_length(I64).into_iter().map(|turn| turn as i64);
+    let turns: Vec<i64> = ends.chain(BESIDE).collect();
     for segment in each_length(U64) {
         for sentence in each_length(U64) {
-            for turn in each_length(I64) {
-                let entry = entry_of(segment as u64, sentence as u64, turn as i64);
+            for turn in &turns {
+                let entry = entry_of(segment as u64, sentence as u64, *turn);
                 let bytes = entry.bytes();
                 at_places(input, &[&[0x05], &bytes, &MARK], [0]);
                 put_write(input, 0, &entry, &filler(bytes.len() + 1));
@@ -505,7 +530,7 @@ fn some_rooms(input: &mut Vec<u8>, entry: &Entry) {
 /// Places so far that place + bytes needed is more than 64 bits hold, and would seem to fit if it
 /// were cut to them; and places that are good ones if they are cut.
 fn far_writes(input: &mut Vec<u8>) {
-    for entry in ENTRIES {
+    for entry in all_entries() {
         let needed = entry.bytes().len();
         for room in [needed, needed + 3] {
             for less in (0..=needed as u64 + 1).step_by(1 + needed / 12) {
@@ -520,7 +545,7 @@ fn far_writes(input: &mut Vec<u8>) {
 
 /// An entry written at the end of many bytes, and with too little room there.
 fn long_writes(input: &mut Vec<u8>) {
-    for entry in ENTRIES {
+    for entry in all_entries() {
         let needed = entry.bytes().len();
         for room in [
             MOST_OF_BLOCK,
@@ -535,22 +560,32 @@ fn long_writes(input: &mut Vec<u8>) {
     }
 }
 
-/// Too few bytes for an entry, at places that are good and not; other languages; and fields that an op
-/// doesn't ask for.
+/// Too few bytes for an entry, good or not, at places that are good and not; other languages, with turns
+/// that pass and not, and such as would pass or not in their stead; and fields that an op doesn't ask
+/// for.
 fn odd_frames(input: &mut Vec<u8>) {
+    let good = [1u64, 2, 3, 4].map(u64::to_le_bytes).concat();
     for n in [0, 1, 7, 8, 16, 24, 30, 31, 32] {
         for place in [0, 1, FAR] {
+            // Of 32 bytes of these, the last eight are an absurd turn.
             put(input, WRITE, place, 0, &filler(n));
+            put(input, WRITE, place, 0, &good[..n]);
         }
     }
-    for language in [0, 1, 127, 128, 1 << 32, 1 << 63, FAR] {
-        put_numbers(input, WRITE, 1, &[5, 6, language, 7], &filler(7));
-        put_numbers(input, WRITE, 3, &[5, 6, language, 7], &filler(7));
+    let [below, above] = [LOWEST_TURN - 1, HIGHEST_TURN + 1].map(|turn| turn as u64);
+    for language in [0, 1, 127, 128, 400, above, 1 << 32, 1 << 63, below, FAR] {
+        for turn in [7, 400, above, below] {
+            put_numbers(input, WRITE, 1, &[5, 6, language, turn], &filler(7));
+            put_numbers(input, WRITE, 3, &[5, 6, language, turn], &filler(7));
+        }
     }
     for b in [1, 5, 1 << 32, FAR] {
-        put(input, READ, 0, b, &SMALL.bytes());
-        put(input, READ, 1, b, &SMALL.bytes());
+        for entry in [SMALL, BEYOND] {
+            put(input, READ, 0, b, &entry.bytes());
+            put(input, READ, 1, b, &entry.bytes());
+        }
         put(input, WRITE, 0, b, &filler(32 + 32));
+        put(input, WRITE, 0, b, &[&good[..], &filler(7)].concat());
     }
 }
 
@@ -590,10 +625,9 @@ const STRETCHES: [(usize, usize); 18] = [
     (23, 23),
 ];
 
-/// The old block, and new ones with one stretch replaced, each at every place.
-fn injuries(input: &mut Vec<u8>, stretches: &[(usize, usize)], by: &[&[u8]]) {
-    let old = old_block();
-    at_every_place(input, &old);
+/// An old block, and new ones with one stretch replaced, each at every place.
+fn injuries(input: &mut Vec<u8>, old: &[u8], stretches: &[(usize, usize)], by: &[&[u8]]) {
+    at_every_place(input, old);
     for (from, to) in stretches {
         for bytes in by {
             if from < to || !bytes.is_empty() {
@@ -612,7 +646,7 @@ fn lost_fronts(input: &mut Vec<u8>) {
     }
 }
 
-/// Random blocks of good entries with one stretch replaced, at every place.
+/// Random blocks of entries that are mostly good, with one stretch replaced, at every place.
 fn random_injuries(input: &mut Vec<u8>, random: &mut Random, count: usize) {
     for _ in 0..count {
         let old: Vec<u8> = (0..4).flat_map(|_| random.entry().bytes()).collect();
@@ -643,7 +677,7 @@ fn plain(input: &mut Vec<u8>) {
         &[&[0x05], &small[..], &MARK].concat(),
         &[&small[1..], &small, &[0x80]].concat(),
         &[&[0x81], &small[..], &small].concat(),
-        &LONGEST.bytes(),
+        &ABSURD.bytes(),
         &old_block(),
     ] {
         for place in 0..=block.len() as u64 {
@@ -656,6 +690,241 @@ fn plain(input: &mut Vec<u8>) {
         }
         put(input, LISTING, 0, 0, block);
     }
+}
+
+// ---- turns
+
+fn turns(input: &mut Vec<u8>) {
+    each_turn(input, -410..=410);
+    for turn in power_turns() {
+        at_an_end(input, turn);
+    }
+    for turn in BESIDE.into_iter().chain(ENDS) {
+        turn_places(input, turn);
+        plain_turn(input, turn);
+    }
+    for turn in [i64::MIN, -401, -400, 400, 401, i64::MAX] {
+        turn_rooms(input, turn);
+    }
+    for count in 0..=4 {
+        for row in rows(&TURN_PIECES, count) {
+            at_places(input, &[&MARK, &row], [0]);
+        }
+    }
+    turn_damage(input);
+    too_many_bytes(input);
+    unlimited(input);
+}
+
+/// Every turn of one byte and of two, and some of three; all pairs of bytes as a turn; and the sorts
+/// above with more turns, pieces and bytes.
+fn many_turns(input: &mut Vec<u8>, random: &mut Random) {
+    each_turn(input, -9_000..=9_000);
+    for first in all_bytes() {
+        for second in all_bytes() {
+            let groups = replaced(&SMALL.groups(), 3, &[first, second]);
+            at_places(input, &[&groups.concat()], [0]);
+        }
+    }
+    for turn in power_turns() {
+        turn_places(input, turn);
+        plain_turn(input, turn);
+        turn_rooms(input, turn);
+    }
+    for turn in BESIDE {
+        every_room(input, &entry_with(2, turn as i128));
+        each_byte(input, &entry_with(2, turn as i128), &all_bytes());
+    }
+    for row in rows(&TURN_PIECES, 6) {
+        let place = random.below(row.len() + 1) as u64;
+        at_places(input, &[&row], [0, place]);
+    }
+    injuries(
+        input,
+        &turn_block(),
+        &(0..24).map(|at| (at, at + 1)).collect::<Vec<_>>(),
+        &all_bytes().chunks(1).collect::<Vec<_>>(),
+    );
+}
+
+/// The last turns that pass on both sides of zero, and the first that don't, and one more of each.
+const BESIDE: [i64; 8] = [-402, -401, -400, -399, 399, 400, 401, 402];
+
+/// The ends of the width.
+const ENDS: [i64; 4] = [i64::MIN, i64::MIN + 1, i64::MAX - 1, i64::MAX];
+
+/// Turns that may be taken for others: each power of two, its negation and those beside them; each
+/// limit with a power of two added or taken away, which passes if it is cut to fewer bits or loses its
+/// sign; and each limit times a power of two, whose form ends as the limit's does if that is a power of
+/// 128. Most are absurd.
+fn power_turns() -> Vec<i64> {
+    let limits = [LOWEST_TURN, HIGHEST_TURN].map(i128::from);
+    let mut all = Vec::new();
+    for of in 0..64 {
+        for near in limits.into_iter().chain([-1, 0, 1]) {
+            all.extend([near + power(of), near - power(of)]);
+        }
+        all.extend(limits.map(|limit| limit * power(of)));
+    }
+    all.sort();
+    all.dedup();
+    all.retain(|turn| I64.smallest() <= *turn && *turn <= I64.largest());
+    all.into_iter().map(|turn| turn as i64).collect()
+}
+
+/// Behind small numbers, and behind the longest.
+fn with_turn(turn: i64) -> [Entry; 2] {
+    [SMALL, LONGEST].map(|entry| Entry { turn, ..entry })
+}
+
+/// Read alone and between two entries, and written between other bytes.
+fn each_turn(input: &mut Vec<u8>, turns: impl Iterator<Item = i64>) {
+    let other = OTHER.bytes();
+    for turn in turns {
+        let entry = entry_with(2, turn as i128);
+        let bytes = entry.bytes();
+        at_places(input, &[&bytes], [0]);
+        at_places(input, &[&other, &bytes, &other], [other.len() as u64]);
+        put_write(input, 1, &entry, &filler(bytes.len() + 2));
+    }
+}
+
+/// Read before a mark, and written at the end of a buffer.
+fn at_an_end(input: &mut Vec<u8>, turn: i64) {
+    for entry in with_turn(turn) {
+        let bytes = entry.bytes();
+        at_places(input, &[&bytes, &MARK], [0]);
+        put_write(input, 2, &entry, &filler(bytes.len() + 2));
+    }
+}
+
+/// Read between two entries, at every place.
+fn turn_places(input: &mut Vec<u8>, turn: i64) {
+    let other = OTHER.bytes();
+    for entry in with_turn(turn) {
+        at_every_place(input, &[&other[..], &entry.bytes(), &other].concat());
+    }
+}
+
+/// Buffers with no room at all to three bytes to spare, at the first places, past the end and at the
+/// largest place.
+fn turn_rooms(input: &mut Vec<u8>, turn: i64) {
+    for entry in with_turn(turn) {
+        for room in 0..=entry.bytes().len() + 3 {
+            for place in [0, 1, room as u64 + 2, FAR] {
+                put_write(input, place, &entry, &filler(room));
+            }
+        }
+    }
+}
+
+/// A mark, a number of one byte, and the turns on both sides of each limit, which are good numbers
+/// wherever no turn is.
+const TURN_PIECES: [&[u8]; 6] = [
+    &MARK,
+    &[0x05],
+    &[0x90, 0x03],
+    &[0x91, 0x03],
+    &[0xf0, 0x7c],
+    &[0xef, 0x7c],
+];
+
+/// Four entries, with the turns on both sides of each limit.
+fn turn_block() -> Vec<u8> {
+    let turns = [400, 401, -400, -401];
+    turns.map(|turn| entry_with(2, turn).bytes()).concat()
+}
+
+/// The two bytes of each turn of that block.
+const TURN_STRETCHES: [(usize, usize); 8] = [
+    (4, 5),
+    (5, 6),
+    (10, 11),
+    (11, 12),
+    (16, 17),
+    (17, 18),
+    (22, 23),
+    (23, 24),
+];
+
+/// Each byte of a turn lost or replaced by the first byte of another, at every place; and each byte of
+/// an entry replaced, those of a turn by every byte there is.
+fn turn_damage(input: &mut Vec<u8>) {
+    injuries(
+        input,
+        &turn_block(),
+        &TURN_STRETCHES,
+        &[&[], &[0x90], &[0x91], &[0xef], &[0xf0]],
+    );
+    for turn in [400, 401, -400, -401] {
+        each_byte(input, &entry_with(2, turn), &SPREAD);
+    }
+    for byte in all_bytes() {
+        for turn in [[0x90, byte], [byte, 0x03], [0xef, byte], [byte, 0x7c]] {
+            let groups = replaced(&SMALL.groups(), 3, &turn);
+            at_places(input, &[&groups.concat(), &OTHER.bytes()], [0]);
+        }
+    }
+}
+
+/// Turns with one to nine bytes more, which are too many or make another number of them: alone, and
+/// behind a group and before a mark.
+fn too_many_bytes(input: &mut Vec<u8>) {
+    for turn in BESIDE {
+        let mut bytes = form(I64, turn as i128);
+        *bytes.last_mut().unwrap() |= 0x80;
+        for count in 0..=8 {
+            for (byte, last) in [(0x80, 0x00), (0xff, 0x7f)] {
+                let long = [&bytes[..], &vec![byte; count], &[last]].concat();
+                let groups = replaced(&SMALL.groups(), 3, &long).concat();
+                at_places(input, &[&groups], [0]);
+                at_places(input, &[&[0x05], &groups, &MARK], [0]);
+            }
+        }
+    }
+}
+
+/// Segments and sentences on both sides of a turn's limits, of every value at which a form grows and of
+/// the ends of the width, before a turn that is the last to pass or the first not to: read and written.
+fn unlimited(input: &mut Vec<u8>) {
+    let as_turns = BESIDE.map(|turn| turn as u64 as i128);
+    for field in 0..2 {
+        for v in numbers(U64).into_iter().chain(as_turns) {
+            for turn in [LOWEST_TURN, HIGHEST_TURN, HIGHEST_TURN + 1] {
+                let entry = Entry {
+                    turn,
+                    ..entry_with(field, v)
+                };
+                let bytes = entry.bytes();
+                at_places(input, &[&bytes, &MARK], [0]);
+                put_write(input, 0, &entry, &filler(bytes.len() + 1));
+            }
+        }
+    }
+}
+
+/// "Plain signed numbers are untouched": a turn read as a number, written with room and without, and
+/// measured, and what it means under each thread; its entry stepped through by both rules, read strictly
+/// behind its mark, and listed.
+fn plain_turn(input: &mut Vec<u8>, turn: i64) {
+    let number = form(I64, turn as i128);
+    let block = entry_with(2, turn as i128).bytes();
+    put(input, SIGNED_READ, 0, 0, &number);
+    put(input, SIGNED_READ, 4, 0, &block);
+    for room in [number.len() + 2, number.len()] {
+        put(input, SIGNED_WRITE, turn as u64, 1, &filler(room));
+    }
+    put(input, SIGNED_LENGTH, turn as u64, 0, &[]);
+    for code in [0, 1] {
+        put(input, MEANING, turn as u64, code, &[]);
+    }
+    for place in [0, 2, 3, 4] {
+        for op in STEPS {
+            put(input, op, place, 0, &block);
+        }
+    }
+    put(input, STRICT, 3, 0, &block[MARK.len()..]);
+    put(input, LISTING, 0, 0, &block);
 }
 
 // ---- blocks at the limit
@@ -706,11 +975,23 @@ fn limits(input: &mut Vec<u8>, random: &mut Random) {
 impl Random {
     /// Mostly small numbers, and ones of each length up to the ends of their width.
     fn entry(&mut self) -> Entry {
-        let [segment, sentence, turn] = RULES.map(|rule| match self.below(3) {
+        let [segment, sentence] = [U64, U64].map(|rule| match self.below(3) {
             0 => self.number(rule),
             _ => self.below(64) as i128,
         });
-        entry_of(segment as u64, sentence as u64, turn as i64)
+        entry_of(segment as u64, sentence as u64, self.turn())
+    }
+
+    /// Mostly a turn that passes; at times one beside a limit, on one side of it or the other, or any of
+    /// the width.
+    fn turn(&mut self) -> i64 {
+        match self.below(8) {
+            0 => self.number(I64) as i64,
+            1 => LOWEST_TURN - 4 + self.below(8) as i64,
+            2 => HIGHEST_TURN - 3 + self.below(8) as i64,
+            3 | 4 => self.below(64) as i64,
+            _ => LOWEST_TURN + self.below(801) as i64,
+        }
     }
 
     /// An entry as it is, or with a group damaged, replaced, removed, doubled, put in or exchanged, its

@@ -1,6 +1,6 @@
 //! Answers written down by hand from document 01, from document 02 (#101, #102, #104, #105, #108,
-//! #110) and from the examples of DWARF 5, so that no expected output rests on this program's word
-//! alone.
+//! #110, #111) and from the examples of DWARF 5, so that no expected output rests on this program's
+//! word alone.
 //!
 //!   READ, WRITE, LENGTH   the cases for numbers, each with its answer line
 //!   BLOCK, LIST, TURN     those for blocks, lists and turns
@@ -10,6 +10,7 @@
 //!   PHRASE, PHRASE_FRAME, LIMIT_PHRASE, LONG_PHRASE   those for phrases inside phrases
 //!   ENTRY, ENTRY_WRITE, ENTRY_FRAME, LIMIT_ENTRY, LONG_ENTRY   those for entries opened by a mark
 //!   ENTRY_BLOCK, ENTRY_TEXT   what the plain step, strict reading and the listing say of a mark
+//!   PLAIN_READ, PLAIN_WRITE, PLAIN_TURN   what is said of absurd turns where no entry is asked for
 //!   put_limits            those with a block or list as long as it may be, or longer
 //!   put_known             all of these as frames
 //!   put_strict            those of STRICT as frames
@@ -986,14 +987,18 @@ const ENTRY: &[Entry] = &[
     (0, "80 00 01 02 c0 7f", "refused 10 6"),
     (0, "80 00 01 02 bf 00", "refused 10 6"),
     (0, "80 00 c0 7f bf 7f 02", "entry 16320 16319 2 7"),
-    // The ends of each width, and the longest entry.
+    // The ends of each width, and the longest entry. Turns there are absurd: those of a good entry end
+    // at 400 and -400.
     (0, "80 00 ff ff ff ff ff ff ff ff ff 01 05 06", "entry 18446744073709551615 5 6 14"),
     (0, "80 00 05 ff ff ff ff ff ff ff ff ff 01 06", "entry 5 18446744073709551615 6 14"),
-    (0, "80 00 05 06 ff ff ff ff ff ff ff ff ff 00", "entry 5 6 9223372036854775807 14"),
-    (0, "80 00 05 06 80 80 80 80 80 80 80 80 80 7f", "entry 5 6 -9223372036854775808 14"),
+    (0, "80 00 05 06 ff ff ff ff ff ff ff ff ff 00", "refused 10 14"),
+    (0, "80 00 05 06 90 03", "entry 5 6 400 6"),
+    (0, "80 00 05 06 80 80 80 80 80 80 80 80 80 7f", "refused 10 14"),
+    (0, "80 00 05 06 f0 7c", "entry 5 6 -400 6"),
     (0, "80 00 80 80 80 80 80 80 80 80 80 01 05 06", "entry 9223372036854775808 5 6 14"),
     (0, "80 00 05 80 80 80 80 80 80 80 80 80 01 06", "entry 5 9223372036854775808 6 14"),
-    (0, "80 00 ff ff ff ff ff ff ff ff ff 01 ff ff ff ff ff ff ff ff ff 01 80 80 80 80 80 80 80 80 80 7f", "entry 18446744073709551615 18446744073709551615 -9223372036854775808 32"),
+    (0, "80 00 ff ff ff ff ff ff ff ff ff 01 ff ff ff ff ff ff ff ff ff 01 80 80 80 80 80 80 80 80 80 7f", "refused 10 32"),
+    (0, "80 00 ff ff ff ff ff ff ff ff ff 01 ff ff ff ff ff ff ff ff ff 01 f0 7c", "entry 18446744073709551615 18446744073709551615 -400 24"),
     // Too large, at ten bytes and above.
     (0, "80 00 ff ff ff ff ff ff ff ff ff 02 05 06", "refused 10 14"),
     (0, "80 00 05 ff ff ff ff ff ff ff ff ff 02 06", "refused 10 14"),
@@ -1128,6 +1133,110 @@ const ENTRY: &[Entry] = &[
     (12, "80 00 01 02 03 80 00 81 01 04 05 06 80 00 07 08 09", "entry 7 8 9 17"),
     (0, "80 00 01 02 03 00 81 01 05 06 80 00 07 08 09", "refused 10 10"),
     (1, "80 00 01 02 03 00 81 01 05 06 80 00 07 08 09", "entry 7 8 9 15"),
+    // Document 02, #111: "A turn above 400 or below -400 makes the entry of #102 bad, refusal 10", and
+    // "400 and -400 pass". 399 to 402, and -399 to -402.
+    (0, "80 00 01 02 8f 03", "entry 1 2 399 6"),
+    (0, "80 00 01 02 90 03", "entry 1 2 400 6"),
+    (0, "80 00 01 02 91 03", "refused 10 6"),
+    (0, "80 00 01 02 92 03", "refused 10 6"),
+    (0, "80 00 01 02 f1 7c", "entry 1 2 -399 6"),
+    (0, "80 00 01 02 f0 7c", "entry 1 2 -400 6"),
+    (0, "80 00 01 02 ef 7c", "refused 10 6"),
+    (0, "80 00 01 02 ee 7c", "refused 10 6"),
+    // Turns that pass: around zero, the ends of one byte, and where the last byte of two is another.
+    (0, "80 00 01 02 00", "entry 1 2 0 5"),
+    (0, "80 00 01 02 01", "entry 1 2 1 5"),
+    (0, "80 00 01 02 7f", "entry 1 2 -1 5"),
+    (0, "80 00 01 02 3f", "entry 1 2 63 5"),
+    (0, "80 00 01 02 40", "entry 1 2 -64 5"),
+    (0, "80 00 01 02 ff 01", "entry 1 2 255 6"),
+    (0, "80 00 01 02 80 02", "entry 1 2 256 6"),
+    (0, "80 00 01 02 ff 02", "entry 1 2 383 6"),
+    (0, "80 00 01 02 80 03", "entry 1 2 384 6"),
+    (0, "80 00 01 02 80 7e", "entry 1 2 -256 6"),
+    (0, "80 00 01 02 ff 7d", "entry 1 2 -257 6"),
+    (0, "80 00 01 02 80 7d", "entry 1 2 -384 6"),
+    (0, "80 00 01 02 ff 7c", "entry 1 2 -385 6"),
+    // 511 and 512, -512 and -513; then both sides of where two bytes end, and three: 8191 and 8192,
+    // -8192 and -8193, 1048575 and 1048576, -1048576 and -1048577.
+    (0, "80 00 01 02 ff 03", "refused 10 6"),
+    (0, "80 00 01 02 80 04", "refused 10 6"),
+    (0, "80 00 01 02 80 7c", "refused 10 6"),
+    (0, "80 00 01 02 ff 7b", "refused 10 6"),
+    (0, "80 00 01 02 ff 3f", "refused 10 6"),
+    (0, "80 00 01 02 80 c0 00", "refused 10 7"),
+    (0, "80 00 01 02 80 40", "refused 10 6"),
+    (0, "80 00 01 02 ff bf 7f", "refused 10 7"),
+    (0, "80 00 01 02 ff ff 3f", "refused 10 7"),
+    (0, "80 00 01 02 80 80 c0 00", "refused 10 8"),
+    (0, "80 00 01 02 80 80 40", "refused 10 7"),
+    (0, "80 00 01 02 ff ff bf 7f", "refused 10 8"),
+    // The numbers next to the ends of the width.
+    (0, "80 00 01 02 fe ff ff ff ff ff ff ff ff 00", "refused 10 14"),
+    (0, "80 00 01 02 81 80 80 80 80 80 80 80 80 7f", "refused 10 14"),
+    // 515, which is 3 if it is cut to 8 bits; 400 and -400 if cut to 14: 16784, 15984 and -15984; to 16:
+    // 65936 and -65936; to 32: 4294967696 and 4294966896; without the sign, and to 63 bits.
+    (0, "80 00 01 02 83 04", "refused 10 6"),
+    (0, "80 00 01 02 90 83 01", "refused 10 7"),
+    (0, "80 00 01 02 f0 fc 00", "refused 10 7"),
+    (0, "80 00 01 02 90 83 7f", "refused 10 7"),
+    (0, "80 00 01 02 90 83 04", "refused 10 7"),
+    (0, "80 00 01 02 f0 fc 7b", "refused 10 7"),
+    (0, "80 00 01 02 90 83 80 80 10", "refused 10 9"),
+    (0, "80 00 01 02 f0 fc ff ff 0f", "refused 10 9"),
+    (0, "80 00 01 02 90 83 80 80 80 80 80 80 80 7f", "refused 10 14"),
+    (0, "80 00 01 02 f0 fc ff ff ff ff ff ff ff 00", "refused 10 14"),
+    // 128 times 400 and -400: the last two bytes are theirs.
+    (0, "80 00 01 02 80 90 03", "refused 10 7"),
+    (0, "80 00 01 02 80 f0 7c", "refused 10 7"),
+    // With the place where the entry ends, as for any other: behind a group, before a mark, and between
+    // entries, which stay.
+    (0, "05 80 00 01 02 90 03", "entry 1 2 400 7"),
+    (0, "05 80 00 01 02 91 03", "refused 10 7"),
+    (1, "05 80 00 01 02 ef 7c", "refused 10 7"),
+    (2, "05 80 00 01 02 ef 7c", "refused 8"),
+    (0, "80 00 01 02 90 03 80 00", "entry 1 2 400 6"),
+    (0, "80 00 01 02 91 03 80 00", "refused 10 6"),
+    (0, "80 00 01 02 ef 7c 80 00", "refused 10 6"),
+    (0, "80 00 01 02 03 80 00 04 05 91 03 80 00 07 08 09", "entry 1 2 3 5"),
+    (1, "80 00 01 02 03 80 00 04 05 91 03 80 00 07 08 09", "refused 10 11"),
+    (5, "80 00 01 02 03 80 00 04 05 91 03 80 00 07 08 09", "refused 10 11"),
+    (6, "80 00 01 02 03 80 00 04 05 91 03 80 00 07 08 09", "entry 7 8 9 16"),
+    (11, "80 00 01 02 03 80 00 04 05 91 03 80 00 07 08 09", "entry 7 8 9 16"),
+    (0, "80 00 01 02 91 03 80 00 04 05 ef 7c 80 00 07 08 f0 7c", "refused 10 6"),
+    (1, "80 00 01 02 91 03 80 00 04 05 ef 7c 80 00 07 08 f0 7c", "refused 10 12"),
+    (7, "80 00 01 02 91 03 80 00 04 05 ef 7c 80 00 07 08 f0 7c", "entry 7 8 -400 18"),
+    // The end is no other if more is wrong: a group too many, a tail, a group that hides a mark, one too
+    // few, one that isn't the shortest.
+    (0, "80 00 01 02 91 03 04", "refused 10 7"),
+    (0, "80 00 01 02 90 03 04", "refused 10 7"),
+    (0, "80 00 01 02 91 03 80", "refused 10 7"),
+    (0, "80 00 01 02 90 03 80", "refused 10 7"),
+    (0, "80 00 01 02 91 03 81 80 00 04 05 06", "refused 10 12"),
+    (0, "80 00 01 91 03 80 00", "refused 10 5"),
+    (0, "80 00 01 82 00 91 03 80 00", "refused 10 7"),
+    // Segment and sentence have no such limit.
+    (0, "80 00 91 03 02 03", "entry 401 2 3 6"),
+    (0, "80 00 01 91 03 03", "entry 1 401 3 6"),
+    (0, "80 00 91 03 ef 7c 90 03", "entry 401 15983 400 8"),
+    (0, "80 00 ff 3f 80 40 f0 7c", "entry 8191 8192 -400 8"),
+    (0, "80 00 90 03 90 03 91 03", "refused 10 8"),
+    (0, "80 00 80 80 80 80 80 80 80 80 80 01 ff ff ff ff ff ff ff ff ff 01 90 03", "entry 9223372036854775808 18446744073709551615 400 24"),
+    (0, "80 00 80 80 80 80 80 80 80 80 80 01 ff ff ff ff ff ff ff ff ff 01 91 03", "refused 10 24"),
+    // 400 and -400 with bytes that are too many, up to the most; 401 with one.
+    (0, "80 00 01 02 90 83 00", "refused 10 7"),
+    (0, "80 00 01 02 f0 fc 7f", "refused 10 7"),
+    (0, "80 00 01 02 90 83 80 00", "refused 10 8"),
+    (0, "80 00 01 02 90 83 80 80 80 80 80 80 80 00", "refused 10 14"),
+    (0, "80 00 01 02 f0 fc ff ff ff ff ff ff ff 7f", "refused 10 14"),
+    (0, "80 00 01 02 91 83 00", "refused 10 7"),
+    // Damage: a turn of 400 becomes 464 or 912, or loses its last byte and hides the mark; one of -401
+    // loses its first and is -4.
+    (0, "80 00 01 02 d0 03 80 00 04 05 06", "refused 10 6"),
+    (1, "80 00 01 02 d0 03 80 00 04 05 06", "entry 4 5 6 11"),
+    (0, "80 00 01 02 90 07 80 00 04 05 06", "refused 10 6"),
+    (0, "80 00 01 02 90 80 00 04 05 06", "refused 10 10"),
+    (0, "80 00 01 02 7c 80 00 04 05 06", "entry 1 2 -4 5"),
 ];
 
 /// For the writer: op 24.
@@ -1152,14 +1261,19 @@ const ENTRY_WRITE: &[EntryWrite] = &[
     (0, 1, 2, -128, "a5 5a 33 cc 96 69", "count 6 80000102807f"),
     (0, 1, 2, -129, "a5 5a 33 cc 96 69", "count 6 80000102ff7e"),
     (0, 16383, 16320, 2, "a5 5a 33 cc 96 69 0f", "count 7 8000ff7fc07f02"),
-    // The ends of each width, and the longest entry.
+    // The ends of each width, and the longest entry. Turns there are absurd: those of a good entry end
+    // at 400 and -400.
     (0, 18446744073709551615, 5, 6, "a5 5a 33 cc 96 69 0f f0 3c c3 a5 5a 33 cc", "count 14 8000ffffffffffffffffff010506"),
     (0, 5, 18446744073709551615, 6, "a5 5a 33 cc 96 69 0f f0 3c c3 a5 5a 33 cc", "count 14 800005ffffffffffffffffff0106"),
-    (0, 5, 6, 9223372036854775807, "a5 5a 33 cc 96 69 0f f0 3c c3 a5 5a 33 cc", "count 14 80000506ffffffffffffffffff00"),
-    (0, 5, 6, -9223372036854775808, "a5 5a 33 cc 96 69 0f f0 3c c3 a5 5a 33 cc", "count 14 800005068080808080808080807f"),
+    (0, 5, 6, 9223372036854775807, "a5 5a 33 cc 96 69 0f f0 3c c3 a5 5a 33 cc", "refused 10 a55a33cc96690ff03cc3a55a33cc"),
+    (0, 5, 6, 400, "a5 5a 33 cc 96 69", "count 6 800005069003"),
+    (0, 5, 6, -9223372036854775808, "a5 5a 33 cc 96 69 0f f0 3c c3 a5 5a 33 cc", "refused 10 a55a33cc96690ff03cc3a55a33cc"),
+    (0, 5, 6, -400, "a5 5a 33 cc 96 69", "count 6 80000506f07c"),
     (0, 9223372036854775808, 5, 6, "a5 5a 33 cc 96 69 0f f0 3c c3 a5 5a 33 cc", "count 14 8000808080808080808080010506"),
-    (0, 18446744073709551615, 18446744073709551615, -9223372036854775808, "a5 5a 33 cc 96 69 0f f0 a5 5a 33 cc 96 69 0f f0 a5 5a 33 cc 96 69 0f f0 a5 5a 33 cc 96 69 0f f0", "count 32 8000ffffffffffffffffff01ffffffffffffffffff018080808080808080807f"),
-    (0, 18446744073709551615, 18446744073709551615, -9223372036854775808, "a5 5a 33 cc 96 69 0f f0 a5 5a 33 cc 96 69 0f f0 a5 5a 33 cc 96 69 0f f0 a5 5a 33 cc 96 69 0f", "refused 5 a55a33cc96690ff0a55a33cc96690ff0a55a33cc96690ff0a55a33cc96690f"),
+    (0, 18446744073709551615, 18446744073709551615, -9223372036854775808, "a5 5a 33 cc 96 69 0f f0 a5 5a 33 cc 96 69 0f f0 a5 5a 33 cc 96 69 0f f0 a5 5a 33 cc 96 69 0f f0", "refused 10 a55a33cc96690ff0a55a33cc96690ff0a55a33cc96690ff0a55a33cc96690ff0"),
+    (0, 18446744073709551615, 18446744073709551615, -9223372036854775808, "a5 5a 33 cc 96 69 0f f0 a5 5a 33 cc 96 69 0f f0 a5 5a 33 cc 96 69 0f f0 a5 5a 33 cc 96 69 0f", "refused 10 a55a33cc96690ff0a55a33cc96690ff0a55a33cc96690ff0a55a33cc96690f"),
+    (0, 18446744073709551615, 18446744073709551615, -400, "a5 5a 33 cc 96 69 0f f0 a5 5a 33 cc 96 69 0f f0 a5 5a 33 cc 96 69 0f f0", "count 24 8000ffffffffffffffffff01ffffffffffffffffff01f07c"),
+    (0, 18446744073709551615, 18446744073709551615, -400, "a5 5a 33 cc 96 69 0f f0 a5 5a 33 cc 96 69 0f f0 a5 5a 33 cc 96 69 0f", "refused 5 a55a33cc96690ff0a55a33cc96690ff0a55a33cc96690f"),
     // The bytes at the place and all else kept; the count and not the end place.
     (0, 1, 2, 3, "a5 5a 33 cc 96 69 0f", "count 5 8000010203690f"),
     (1, 1, 2, 3, "a5 5a 33 cc 96 69 0f", "count 5 a580000102030f"),
@@ -1192,10 +1306,93 @@ const ENTRY_WRITE: &[EntryWrite] = &[
     // What is there already is not looked at, be it a mark.
     (2, 1, 2, 3, "80 00 80 00 80 00 80 00 80 00", "count 5 80008000010203008000"),
     (1, 1, 2, 3, "80 80 80 80 80 80 80 80", "count 5 8080000102038080"),
+    // Document 02, #111: "in reader and writer alike". 399 to 402, and -399 to -402.
+    (0, 1, 2, 399, "a5 5a 33 cc 96 69", "count 6 800001028f03"),
+    (0, 1, 2, 400, "a5 5a 33 cc 96 69", "count 6 800001029003"),
+    (0, 1, 2, 401, "a5 5a 33 cc 96 69", "refused 10 a55a33cc9669"),
+    (0, 1, 2, 402, "a5 5a 33 cc 96 69", "refused 10 a55a33cc9669"),
+    (0, 1, 2, -399, "a5 5a 33 cc 96 69", "count 6 80000102f17c"),
+    (0, 1, 2, -400, "a5 5a 33 cc 96 69", "count 6 80000102f07c"),
+    (0, 1, 2, -401, "a5 5a 33 cc 96 69", "refused 10 a55a33cc9669"),
+    (0, 1, 2, -402, "a5 5a 33 cc 96 69", "refused 10 a55a33cc9669"),
+    // Turns that pass: the ends of one byte, and where the last byte of two is another.
+    (0, 1, 2, 63, "a5 5a 33 cc 96 69", "count 5 800001023f69"),
+    (0, 1, 2, -64, "a5 5a 33 cc 96 69", "count 5 800001024069"),
+    (0, 1, 2, 255, "a5 5a 33 cc 96 69", "count 6 80000102ff01"),
+    (0, 1, 2, 256, "a5 5a 33 cc 96 69", "count 6 800001028002"),
+    (0, 1, 2, 383, "a5 5a 33 cc 96 69", "count 6 80000102ff02"),
+    (0, 1, 2, 384, "a5 5a 33 cc 96 69", "count 6 800001028003"),
+    (0, 1, 2, -256, "a5 5a 33 cc 96 69", "count 6 80000102807e"),
+    (0, 1, 2, -257, "a5 5a 33 cc 96 69", "count 6 80000102ff7d"),
+    (0, 1, 2, -384, "a5 5a 33 cc 96 69", "count 6 80000102807d"),
+    (0, 1, 2, -385, "a5 5a 33 cc 96 69", "count 6 80000102ff7c"),
+    // Around 512, and on both sides of where two bytes end.
+    (0, 1, 2, 511, "a5 5a 33 cc 96 69", "refused 10 a55a33cc9669"),
+    (0, 1, 2, 512, "a5 5a 33 cc 96 69", "refused 10 a55a33cc9669"),
+    (0, 1, 2, -512, "a5 5a 33 cc 96 69", "refused 10 a55a33cc9669"),
+    (0, 1, 2, -513, "a5 5a 33 cc 96 69", "refused 10 a55a33cc9669"),
+    (0, 1, 2, 8191, "a5 5a 33 cc 96 69 0f", "refused 10 a55a33cc96690f"),
+    (0, 1, 2, 8192, "a5 5a 33 cc 96 69 0f", "refused 10 a55a33cc96690f"),
+    (0, 1, 2, -8192, "a5 5a 33 cc 96 69 0f", "refused 10 a55a33cc96690f"),
+    (0, 1, 2, -8193, "a5 5a 33 cc 96 69 0f", "refused 10 a55a33cc96690f"),
+    // The numbers next to the ends of the width.
+    (0, 1, 2, 9223372036854775806, "a5 5a 33 cc 96 69 0f f0 3c c3 a5 5a 33 cc", "refused 10 a55a33cc96690ff03cc3a55a33cc"),
+    (0, 1, 2, -9223372036854775807, "a5 5a 33 cc 96 69 0f f0 3c c3 a5 5a 33 cc", "refused 10 a55a33cc96690ff03cc3a55a33cc"),
+    // 3, 400 and -400 if they are cut to 8, 14, 16, 32 or 63 bits.
+    (0, 1, 2, 515, "a5 5a 33 cc 96 69 0f f0 3c", "refused 10 a55a33cc96690ff03c"),
+    (0, 1, 2, 15984, "a5 5a 33 cc 96 69 0f f0 3c", "refused 10 a55a33cc96690ff03c"),
+    (0, 1, 2, 65936, "a5 5a 33 cc 96 69 0f f0 3c", "refused 10 a55a33cc96690ff03c"),
+    (0, 1, 2, -65936, "a5 5a 33 cc 96 69 0f f0 3c", "refused 10 a55a33cc96690ff03c"),
+    (0, 1, 2, 4294967696, "a5 5a 33 cc 96 69 0f f0 3c", "refused 10 a55a33cc96690ff03c"),
+    (0, 1, 2, 4294966896, "a5 5a 33 cc 96 69 0f f0 3c", "refused 10 a55a33cc96690ff03c"),
+    (0, 1, 2, -9223372036854775408, "a5 5a 33 cc 96 69 0f f0 3c c3 a5 5a 33 cc", "refused 10 a55a33cc96690ff03cc3a55a33cc"),
+    (0, 1, 2, 9223372036854775408, "a5 5a 33 cc 96 69 0f f0 3c c3 a5 5a 33 cc", "refused 10 a55a33cc96690ff03cc3a55a33cc"),
+    // At the place, with a byte to spare, at the last that fits, and one byte short.
+    (1, 1, 2, 400, "a5 5a 33 cc 96 69 0f f0", "count 6 a5800001029003f0"),
+    (2, 1, 2, -400, "a5 5a 33 cc 96 69 0f f0", "count 6 a55a80000102f07c"),
+    (3, 1, 2, 400, "a5 5a 33 cc 96 69 0f f0", "refused 5 a55a33cc96690ff0"),
+    (3, 1, 2, -400, "a5 5a 33 cc 96 69 0f f0", "refused 5 a55a33cc96690ff0"),
+    (1, 1, 2, 401, "a5 5a 33 cc 96 69 0f f0", "refused 10 a55a33cc96690ff0"),
+    (2, 1, 2, -401, "a5 5a 33 cc 96 69 0f f0", "refused 10 a55a33cc96690ff0"),
+    // "The writer tests it before 5": one byte short, room for a byte, for the mark, for nothing.
+    (3, 1, 2, 401, "a5 5a 33 cc 96 69 0f f0", "refused 10 a55a33cc96690ff0"),
+    (3, 1, 2, -401, "a5 5a 33 cc 96 69 0f f0", "refused 10 a55a33cc96690ff0"),
+    (0, 1, 2, 400, "a5 5a 33 cc 96", "refused 5 a55a33cc96"),
+    (0, 1, 2, 401, "a5 5a 33 cc 96", "refused 10 a55a33cc96"),
+    (0, 1, 2, -400, "a5 5a 33 cc 96", "refused 5 a55a33cc96"),
+    (0, 1, 2, -401, "a5 5a 33 cc 96", "refused 10 a55a33cc96"),
+    (0, 1, 2, 401, "a5 5a", "refused 10 a55a"),
+    (0, 1, 2, -401, "a5", "refused 10 a5"),
+    (0, 1, 2, 400, "", "refused 5 -"),
+    (0, 1, 2, 401, "", "refused 10 -"),
+    (0, 1, 2, -401, "", "refused 10 -"),
+    (0, 1, 2, 9223372036854775807, "", "refused 10 -"),
+    (0, 1, 2, -9223372036854775808, "a5 5a 33", "refused 10 a55a33"),
+    // At the end, past it, and where place + bytes needed is more than 64 bits hold.
+    (8, 1, 2, -400, "a5 5a 33 cc 96 69 0f f0", "refused 5 a55a33cc96690ff0"),
+    (8, 1, 2, -401, "a5 5a 33 cc 96 69 0f f0", "refused 10 a55a33cc96690ff0"),
+    (9, 1, 2, 400, "a5 5a 33 cc 96 69 0f f0", "refused 5 a55a33cc96690ff0"),
+    (9, 1, 2, 401, "a5 5a 33 cc 96 69 0f f0", "refused 10 a55a33cc96690ff0"),
+    (1, 1, 2, -401, "", "refused 10 -"),
+    (18446744073709551610, 1, 2, 400, "a5 5a 33 cc 96 69 0f f0", "refused 5 a55a33cc96690ff0"),
+    (18446744073709551610, 1, 2, 401, "a5 5a 33 cc 96 69 0f f0", "refused 10 a55a33cc96690ff0"),
+    (18446744073709551615, 1, 2, -400, "a5 5a 33 cc 96 69 0f f0", "refused 5 a55a33cc96690ff0"),
+    (18446744073709551615, 1, 2, -401, "a5 5a 33 cc 96 69 0f f0", "refused 10 a55a33cc96690ff0"),
+    (18446744073709551615, 1, 2, 9223372036854775807, "a5 5a", "refused 10 a55a"),
+    (18446744073709551615, 1, 2, 401, "", "refused 10 -"),
+    // Segment and sentence have no such limit, be they -401 in two's complement.
+    (0, 401, 401, 400, "a5 5a 33 cc 96 69 0f f0", "count 8 8000910391039003"),
+    (0, 15983, 8192, -400, "a5 5a 33 cc 96 69 0f f0", "count 8 8000ef7c8040f07c"),
+    (0, 18446744073709551215, 2, 3, "a5 5a 33 cc 96 69 0f f0 3c c3 a5 5a 33 cc", "count 14 8000effcffffffffffffff010203"),
+    (0, 400, 400, 401, "a5 5a 33 cc 96 69 0f f0", "refused 10 a55a33cc96690ff0"),
+    // What is there already is not looked at, be it a mark or the same entry with a turn that passes.
+    (0, 1, 2, 401, "80 00 80 00 80 00", "refused 10 800080008000"),
+    (0, 1, 2, 401, "80 00 01 02 90 03", "refused 10 800001029003"),
 ];
 
 /// Fewer than 32 bytes, with a place that is good and one that is not; just 32, and no buffer; the
-/// language, which is not looked at, and the low byte first; fields that an op doesn't ask for.
+/// language, which is not looked at, be it an absurd turn, and the low byte first; fields that an op
+/// doesn't ask for.
 #[rustfmt::skip]
 const ENTRY_FRAME: &[AnyFrame] = &[
     (24, 0, 0, "", "unknown"),
@@ -1207,9 +1404,22 @@ const ENTRY_FRAME: &[AnyFrame] = &[
     (24, 0, 7, "01 00 00 00 00 00 00 00 02 00 00 00 00 00 00 00 09 00 00 00 00 00 00 00 03 00 00 00 00 00 00 00 a5 5a 33 cc 96 69", "count 5 800001020369"),
     (24, 0, 18446744073709551615, "01 00 00 00 00 00 00 00 02 00 00 00 00 00 00 00 ff ff ff ff ff ff ff ff 03 00 00 00 00 00 00 00 a5 5a 33 cc 96", "count 5 8000010203"),
     (24, 0, 0, "02 01 00 00 00 00 00 00 04 03 00 00 00 00 00 00 00 00 00 00 00 00 00 00 fe ff ff ff ff ff ff ff a5 5a 33 cc 96 69 0f", "count 7 8000820284067e"),
-    (24, 0, 0, "01 00 00 00 00 00 00 00 02 00 00 00 00 00 00 00 00 00 00 00 00 00 00 00 00 00 00 00 00 00 00 80 a5 5a 33 cc 96 69 0f f0 3c c3 a5 5a 33 cc", "count 14 800001028080808080808080807f"),
+    (24, 0, 0, "01 00 00 00 00 00 00 00 02 00 00 00 00 00 00 00 00 00 00 00 00 00 00 00 00 00 00 00 00 00 00 80 a5 5a 33 cc 96 69 0f f0 3c c3 a5 5a 33 cc", "refused 10 a55a33cc96690ff03cc3a55a33cc"),
+    (24, 0, 0, "01 00 00 00 00 00 00 00 02 00 00 00 00 00 00 00 00 00 00 00 00 00 00 00 70 fe ff ff ff ff ff ff a5 5a 33 cc 96 69", "count 6 80000102f07c"),
+    (24, 0, 0, "01 00 00 00 00 00 00 00 02 00 00 00 00 00 00 00 00 00 00 00 00 00 00 00 6f fe ff ff ff ff ff ff a5 5a 33 cc 96 69", "refused 10 a55a33cc9669"),
+    (24, 0, 0, "01 00 00 00 00 00 00 00 02 00 00 00 00 00 00 00 00 00 00 00 00 00 00 00 90 01 00 00 00 00 00 00 a5 5a 33 cc 96 69", "count 6 800001029003"),
+    (24, 0, 0, "01 00 00 00 00 00 00 00 02 00 00 00 00 00 00 00 00 00 00 00 00 00 00 00 91 01 00 00 00 00 00 00 a5 5a 33 cc 96 69", "refused 10 a55a33cc9669"),
+    (24, 0, 0, "01 00 00 00 00 00 00 00 02 00 00 00 00 00 00 00 00 00 00 00 00 00 00 00 01 90 00 00 00 00 00 00 a5 5a 33 cc 96 69", "refused 10 a55a33cc9669"),
+    (24, 0, 0, "01 00 00 00 00 00 00 00 02 00 00 00 00 00 00 00 00 00 00 00 00 00 00 00 03 00 00 00 01 00 00 00 a5 5a 33 cc 96 69 0f f0 3c", "refused 10 a55a33cc96690ff03c"),
+    (24, 0, 0, "01 00 00 00 00 00 00 00 02 00 00 00 00 00 00 00 00 00 00 00 00 00 00 00 91 01 00 00 00 00 00 00", "refused 10 -"),
+    (24, 18446744073709551615, 0, "01 00 00 00 00 00 00 00 02 00 00 00 00 00 00 00 00 00 00 00 00 00 00 00 91 01 00 00 00 00 00 00", "refused 10 -"),
+    (24, 0, 0, "01 00 00 00 00 00 00 00 02 00 00 00 00 00 00 00 00 00 00 00 00 00 00 00 91 01 00 00 00 00 00", "unknown"),
+    (24, 0, 0, "01 00 00 00 00 00 00 00 02 00 00 00 00 00 00 00 91 01 00 00 00 00 00 00 03 00 00 00 00 00 00 00 a5 5a 33 cc 96 69", "count 5 800001020369"),
+    (24, 0, 0, "01 00 00 00 00 00 00 00 02 00 00 00 00 00 00 00 00 00 00 00 00 00 00 80 90 01 00 00 00 00 00 00 a5 5a 33 cc 96 69", "count 6 800001029003"),
+    (24, 0, 0, "01 00 00 00 00 00 00 00 02 00 00 00 00 00 00 00 03 00 00 00 00 00 00 00 91 01 00 00 00 00 00 00 a5 5a 33 cc 96 69", "refused 10 a55a33cc9669"),
     (23, 0, 18446744073709551615, "80 00 01 02 03", "entry 1 2 3 5"),
     (23, 1, 5, "80 00 01 02 03", "refused 8"),
+    (23, 0, 400, "80 00 01 02 91 03", "refused 10 6"),
 ];
 
 /// "The plain step and the listing still call 80 00 NotShortest", and so does strict reading.
@@ -1228,9 +1438,10 @@ const ENTRY_BLOCK: &[Read] = &[
 ];
 
 /// The same in the text of a listing.
-const ENTRY_TEXT: &[(&str, &str)] = &[(
-    "80 00 01 02 40 80 00 80 00 05 81 80 00",
-    "place what value
+const ENTRY_TEXT: &[(&str, &str)] = &[
+    (
+        "80 00 01 02 40 80 00 80 00 05 81 80 00",
+        "place what value
 0 not-shortest 2
 2 number 1
 3 number 2
@@ -1240,7 +1451,61 @@ const ENTRY_TEXT: &[(&str, &str)] = &[(
 9 number 5
 10 not-shortest 3
 ",
-)];
+    ),
+    (
+        "80 00 01 02 91 03 80 00 04 05 ef 7c",
+        "place what value
+0 not-shortest 2
+2 number 1
+3 number 2
+4 number 401
+6 not-shortest 2
+8 number 4
+9 number 5
+10 number 15983
+",
+    ),
+];
+
+/// Document 02, #111: "Plain signed numbers are untouched", be they in an entry: 401, -401 and the ends
+/// of the width, read alone and by a step; the unsigned step, set-down and strict reading know no turn.
+#[rustfmt::skip]
+const PLAIN_READ: &[Read] = &[
+    (&[4], 0, "91 03", "number 401 2"),
+    (&[4], 0, "ef 7c", "number -401 2"),
+    (&[4], 4, "80 00 01 02 91 03", "number 401 2"),
+    (&[4], 4, "80 00 01 02 ef 7c 80 00", "number -401 2"),
+    (&[4], 4, "80 00 01 02 ff ff ff ff ff ff ff ff ff 00", "number 9223372036854775807 10"),
+    (&[4], 4, "80 00 01 02 80 80 80 80 80 80 80 80 80 7f", "number -9223372036854775808 10"),
+    (&[13], 0, "91 03", "number 401 2 2"),
+    (&[13], 4, "80 00 01 02 91 03", "number 401 2 6"),
+    (&[13], 4, "80 00 01 02 ef 7c 80 00", "number -401 2 6"),
+    (&[13], 4, "80 00 01 02 ff ff ff ff ff ff ff ff ff 00", "number 9223372036854775807 10 14"),
+    (&[13], 4, "80 00 01 02 80 80 80 80 80 80 80 80 80 7f 80 00", "number -9223372036854775808 10 14"),
+    (&[12], 4, "80 00 01 02 91 03", "number 401 2 6"),
+    (&[12], 4, "80 00 01 02 ef 7c", "number 15983 2 6"),
+    (&[14], 5, "80 00 01 02 91 03 80 00", "start 6"),
+    (&[15], 3, "01 02 91 03", "count 3 1 2 401"),
+];
+
+/// The same of the plain writer.
+#[rustfmt::skip]
+const PLAIN_WRITE: &[Write] = &[
+    (&[8], 401, 0, "a5 5a", "count 2 9103"),
+    (&[8], -401, 0, "a5 5a", "count 2 ef7c"),
+    (&[8], 401, 1, "a5 5a", "refused 5 a55a"),
+    (&[8], 9223372036854775807, 1, "a5 5a 33 cc 96 69 0f f0 3c c3 a5", "count 10 a5ffffffffffffffffff00"),
+    (&[8], -9223372036854775808, 1, "a5 5a 33 cc 96 69 0f f0 3c c3 a5", "count 10 a58080808080808080807f"),
+];
+
+/// The same of what a turn means.
+const PLAIN_TURN: &[Turn] = &[
+    (&[0], 401, "tighten"),
+    (&[0], -401, "loosen"),
+    (&[1], 401, "loosen"),
+    (&[1], -401, "tighten"),
+    (&[2], 401, "refused 9"),
+];
 
 /// Blocks at the limit. The most bytes: marks at both ends, and an entry that is the last. One byte more:
 /// good entries alone, and a place past the end.
@@ -1297,6 +1562,17 @@ const LONG_ENTRY: &[LongEntry] = &[
     (65538, &[(65537, "05")], "refused 7"),
     (18446744073709551615, &[(65537, "05")], "refused 7"),
     (0, &[(60000, "80 00 01 02 03")], "refused 7"),
+    // Document 02, #111: a turn in the last bytes of the most, in the first, and in one more.
+    (0, &[(65530, "05"), (1, "80 00 01 02 90 03")], "entry 1 2 400 65536"),
+    (0, &[(65530, "05"), (1, "80 00 01 02 91 03")], "refused 10 65536"),
+    (65530, &[(65530, "05"), (1, "80 00 01 02 ef 7c")], "refused 10 65536"),
+    (65531, &[(65530, "05"), (1, "80 00 01 02 ef 7c")], "refused 8"),
+    (0, &[(1, "80 00 01 02 91 03 80 00"), (65528, "05")], "refused 10 6"),
+    (0, &[(1, "80 00 01 02 91 03"), (65528, "05"), (1, "80 00")], "refused 10 65534"),
+    (0, &[(10922, "80 00 01 02 ef 7c"), (4, "05")], "refused 10 6"),
+    (65521, &[(10922, "80 00 01 02 f0 7c"), (4, "05")], "refused 10 65536"),
+    (65520, &[(10922, "80 00 01 02 f0 7c"), (4, "05")], "entry 1 2 -400 65526"),
+    (0, &[(65531, "05"), (1, "80 00 01 02 91 03")], "refused 7"),
 ];
 
 #[rustfmt::skip]
@@ -1409,19 +1685,8 @@ fn text_line(text: &str) -> String {
 /// Adds the known cases that the repository holds to an input, and gives their answers in the same
 /// order.
 pub fn put_known(input: &mut Vec<u8>) -> Vec<String> {
-    let mut lines = Vec::new();
-    for (ops, place, bytes, line) in READ {
-        for op in *ops {
-            put(input, *op, *place, 0, &bytes_of(bytes));
-            lines.push(line.to_string());
-        }
-    }
-    for (ops, v, place, buffer, line) in WRITE {
-        for op in *ops {
-            put(input, *op, *v as u64, *place, &bytes_of(buffer));
-            lines.push(line.to_string());
-        }
-    }
+    let mut lines = put_reads(input, READ);
+    lines.extend(put_writes(input, WRITE));
     for (ops, v, line) in LENGTH {
         for op in *ops {
             put(input, *op, *v as u64, 0, &[]);
@@ -1434,37 +1699,56 @@ pub fn put_known(input: &mut Vec<u8>) -> Vec<String> {
         put(input, 9, *at as u64, 0, &[]);
         lines.push(format!("count {}", i + 2));
     }
-    for (ops, a, bytes, line) in BLOCK {
-        for op in *ops {
-            put(input, *op, *a, 0, &bytes_of(bytes));
-            lines.push(line.to_string());
-        }
-    }
+    lines.extend(put_reads(input, BLOCK));
     for (place, numbers, buffer, line) in LIST {
         put_list(input, *place, numbers, &bytes_of(buffer));
         lines.push(line.to_string());
     }
-    for (codes, turn, line) in TURN {
-        for code in *codes {
-            put(input, 17, *turn as u64, *code, &[]);
-            lines.push(line.to_string());
-        }
-    }
+    lines.extend(put_turns(input, TURN));
     let named = LISTING.iter().map(|(_, bytes, text)| (*bytes, *text));
     for (bytes, text) in named.chain(TEXT.iter().copied()) {
         put(input, 18, 0, 0, &bytes_of(bytes));
         lines.push(text_line(text));
     }
     lines.extend(put_limits(input));
-    for (ops, a, bytes, line) in READ_PLACE.iter().chain(BLOCK_PLACE) {
+    lines.extend(put_reads(input, READ_PLACE));
+    lines.extend(put_reads(input, BLOCK_PLACE));
+    // Past the last place of the longest block, from a start that is before it.
+    put(input, 2, 65530, 0, &fives_and(65530, &[0x80; 10]));
+    lines.push("refused 2 65539".to_string());
+    lines
+}
+
+fn put_reads(input: &mut Vec<u8>, reads: &[Read]) -> Vec<String> {
+    let mut lines = Vec::new();
+    for (ops, a, bytes, line) in reads {
         for op in *ops {
             put(input, *op, *a, 0, &bytes_of(bytes));
             lines.push(line.to_string());
         }
     }
-    // Past the last place of the longest block, from a start that is before it.
-    put(input, 2, 65530, 0, &fives_and(65530, &[0x80; 10]));
-    lines.push("refused 2 65539".to_string());
+    lines
+}
+
+fn put_writes(input: &mut Vec<u8>, writes: &[Write]) -> Vec<String> {
+    let mut lines = Vec::new();
+    for (ops, v, place, buffer, line) in writes {
+        for op in *ops {
+            put(input, *op, *v as u64, *place, &bytes_of(buffer));
+            lines.push(line.to_string());
+        }
+    }
+    lines
+}
+
+fn put_turns(input: &mut Vec<u8>, turns: &[Turn]) -> Vec<String> {
+    let mut lines = Vec::new();
+    for (codes, turn, line) in turns {
+        for code in *codes {
+            put(input, 17, *turn as u64, *code, &[]);
+            lines.push(line.to_string());
+        }
+    }
     lines
 }
 
@@ -1547,12 +1831,7 @@ pub fn put_entries(input: &mut Vec<u8>) -> Vec<String> {
         put(input, *op, *a, *b, &bytes_of(bytes));
         lines.push(line.to_string());
     }
-    for (ops, a, bytes, line) in ENTRY_BLOCK {
-        for op in *ops {
-            put(input, *op, *a, 0, &bytes_of(bytes));
-            lines.push(line.to_string());
-        }
-    }
+    lines.extend(put_reads(input, ENTRY_BLOCK));
     for (bytes, text) in ENTRY_TEXT {
         put(input, 18, 0, 0, &bytes_of(bytes));
         lines.push(text_line(text));
@@ -1561,6 +1840,9 @@ pub fn put_entries(input: &mut Vec<u8>) -> Vec<String> {
     // The writer knows no limit as a block has.
     put_numbers(input, 24, 65537, &[1, 2, 0, 3], &[0xa5; 65543]);
     lines.push("count 5 ".to_string() + &"a5".repeat(65537) + "8000010203" + "a5");
+    lines.extend(put_reads(input, PLAIN_READ));
+    lines.extend(put_writes(input, PLAIN_WRITE));
+    lines.extend(put_turns(input, PLAIN_TURN));
     lines
 }
 
@@ -1675,6 +1957,11 @@ pub fn put_long(input: &mut Vec<u8>) -> Vec<String> {
     lines.extend(put_long_places(input));
     lines.extend(put_times(input, LONG_PHRASE));
     lines.extend(put_long_entries(input, LONG_ENTRY));
+    // A turn is tested before the room in many bytes too.
+    for place in [65537, 65538] {
+        put_numbers(input, 24, place, &[1, 2, 0, 401], &[0xa5; 65543]);
+        lines.push("refused 10 ".to_string() + &"a5".repeat(65543));
+    }
     lines
 }
 

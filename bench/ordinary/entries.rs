@@ -51,12 +51,21 @@ fn next_mark_by_chunks(block: &[u8], from: usize) -> usize {
 
 // ---- reading
 
+/// No entry may have such a turn.
+#[inline(always)]
+fn is_absurd(turn: i64) -> bool {
+    !(-400..=400).contains(&turn)
+}
+
 /// What the bytes begin with, and how many it takes.
 #[inline(always)]
 fn numbers(bytes: &[u8]) -> Option<(Entry, usize)> {
     let (segment, first) = by_small(bytes, 0).ok()?;
     let (sentence, second) = by_small(bytes, first).ok()?;
     let (turn, third) = by_small(bytes, first + second).ok()?;
+    if is_absurd(turn) {
+        return None;
+    }
     Some((Entry { segment, sentence, turn }, first + second + third))
 }
 
@@ -190,6 +199,9 @@ fn put(entry: &Entry, out: &mut [u8]) -> usize {
 /// The lengths first, then byte after byte.
 #[inline(never)]
 pub fn write_by_lengths(entry: &Entry, buffer: &mut [u8], at: usize) -> Written {
+    if is_absurd(entry.turn) {
+        return Err(ENTRY);
+    }
     let n = MARK.len() + by_bits(entry.segment) + by_bits(entry.sentence) + signed_length(entry.turn);
     Ok(put(entry, room(buffer, at, n)?))
 }
@@ -197,7 +209,10 @@ pub fn write_by_lengths(entry: &Entry, buffer: &mut [u8], at: usize) -> Written 
 /// Into an array with room for the longest entry, and from there if it fits.
 #[inline(never)]
 pub fn write_by_array(entry: &Entry, buffer: &mut [u8], at: usize) -> Written {
-    let mut bytes = [0; 32];
+    if is_absurd(entry.turn) {
+        return Err(ENTRY);
+    }
+    let mut bytes = [0; 24];
     let n = put(entry, &mut bytes);
     room(buffer, at, n)?.copy_from_slice(&bytes[..n]);
     Ok(n)

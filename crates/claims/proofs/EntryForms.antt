@@ -1,10 +1,13 @@
 -- What a good entry's bytes are: exactly the forms of its numbers, one after another behind the mark, and no mark among them.
 --
 --   number-form, form-number   a group that a kind's field reads as a number is its form, and back
---   good-forms, forms-good     bytes are those of a good entry exactly where they are the forms of numbers of their widths
+--   said-widths, forms-said    bytes say an entry's numbers exactly where they are the forms of numbers of their widths
 --   good-form, one-form        the same of an entry with its mark; a form is of one entry
 --   form-stands                an entry's form alone is an entry: no mark stands among the forms
---   written-back               so an entry written alone reads back
+--   form-read                  where it stands, a reader answers it by the verdict on it
+--   absurd-read                so an absurd turn is refused by 10, with the place where the entry ends;
+--   written-back               an entry written alone reads back,
+--   refused-unread             and one refused by 10 would not have
 use Prim.Native.Nat.{ℕ, _+_, _-_, _^_, _≤_}
 use mathlib.Core.Path.{_≡_, refl, ap, sym, _∙_, subst}
 use mathlib.Core.List.{List, [], _∷_, _++_}
@@ -12,7 +15,8 @@ use mathlib.Core.Logic.{inr}
 use native.Mathlib.Omega.{arith}
 use lib.ListN.{length, take, drop, take-append-drop}
 use lib.Seq.{take-length, take-take}
-use Rattle.words.specs.Answer.{gives}
+use Rattle.words.specs.Answer.{gives, meansWritten}
+use Rattle.words.specs.declared.Refusal.the-variants as Why
 use Rattle.words.specs.declared.Written.the-variants as W
 use Rattle.words.proofs.LaysExactly.{laid-there}
 use Rattle.words.proofs.OneMeaning.{apart, given, by-answer}
@@ -28,19 +32,21 @@ use Rattle.sleb128.proofs.Forms as signed-forms
 use Rattle.blocks.specs.Block.{Val, unsigned, signed, valued, blockLimit}
 use Rattle.blocks.proofs.FromStart.{front-start}
 use Rattle.entries.specs.Standing.{mark, EntryAt}
-use Rattle.entries.specs.Saying.{fields, Says, nothing, field, numbersOf, Good, good, is-good, formsOf}
-use Rattle.entries.specs.Promise.{ReadsEntry, entryForm}
+use Rattle.entries.specs.Saying.{fields, Says, nothing, field, numbersOf, Absurd, Verdict, good, bad, Judged, is-good, is-bad, formsOf}
+use Rattle.entries.specs.Promise.{ReadsEntry, entryForm, absurd-turn, sensible-turn}
 use Rattle.entries.specs.declared.Entry.{Entry}
+use Rattle.entries.specs.declared.ReadEntry.{ReadEntry}
 use Rattle.entries.specs.declared.ReadEntry.the-variants as R
 use Rattle.entries.proofs.NextMarks.{mark-group, next-here}
 use Rattle.entries.proofs.NoMarkInside.{fields-refuse, no-mark-said, part-behind}
-use Rattle.entries.proofs.SaysGroups.{one-said, same-numbers}
-use Rattle.entries.proofs.OneEntry.{same-entry, one-answered, reads-first}
+use Rattle.entries.proofs.SaysGroups.{one-said, same-numbers, absurd-said}
+use Rattle.entries.proofs.OneEntry.{same-entry, one-answered, answerOf, reads-first, first-of}
 use Rattle.entries.proofs.PutEntry.{form-ten, signed-ten, entry-takes}
 use Rattle.claims.specs.Kinds.{Kind, loop64, signed64, Value, width, form, OfWidth}
-use Rattle.claims.specs.OfEntries.{OfWidths, GoodForm, OneForm, WrittenBack}
+use Rattle.claims.specs.OfEntries.{OfWidths, GoodForm, OneForm, AbsurdRead, WrittenBack, RefusedUnread}
 use Rattle.claims.proofs.ReadGroup.{read-group}
 use Rattle.claims.proofs.Readers.{mag-of-within}
+use Rattle.claims.proofs.Begun.{refused-by}
 
 -- a field of a kind, which tells a number of the kind as a value
 module _ (k : Kind) (tell : Value k → Val) where
@@ -72,11 +78,11 @@ said-forms (field r e (field r′ e′ (field r″ e″ nothing i″) i′) i) =
     let f″ = number-form signed64 signed (λ u q. cc) r″ e″ in
     (f .0, f′ .0, f″ .0, rw (i, i′, i″, f .1, f′ .1, f″ .1))
 
-good-forms : (l : List ℕ) (x : Entry) → Good l x → OfWidths x × (l ≡ formsOf (numbersOf x))
-good-forms l x h = let w = said-forms h in (record { segment = w .0; sentence = w .1; turn = w .2 }, w .3)
+said-widths : (l : List ℕ) (x : Entry) → Says fields l (numbersOf x) [] → OfWidths x × (l ≡ formsOf (numbersOf x))
+said-widths l x h = let w = said-forms h in (record { segment = w .0; sentence = w .1; turn = w .2 }, w .3)
 
-pub forms-good : (l : List ℕ) (x : Entry) → OfWidths x → l ≡ formsOf (numbersOf x) → Good l x
-forms-good l x h e =
+forms-said : (l : List ℕ) (x : Entry) → OfWidths x → l ≡ formsOf (numbersOf x) → Says fields l (numbersOf x) []
+forms-said l x h e =
     field (unsigned-group (x .segment)) (form-number loop64 unsigned (unsigned-group (x .segment)) (h .segment))
     (field (unsigned-group (x .sentence)) (form-number loop64 unsigned (unsigned-group (x .sentence)) (h .sentence))
     (field (signed-group (x .turn)) (form-number signed64 signed (signed-group (x .turn)) (h .turn)) nothing refl) refl) e
@@ -89,15 +95,14 @@ opened {s} {p} {e} k =
 
 pub good-form : GoodForm
 good-form s p e k x = (
-  λ h. let w = good-forms (drop 2 e) x h in (w .0, opened k ∙ ap (λ (l : List ℕ). mark ++ l) (w .1)),
-  λ h. forms-good (drop 2 e) x (h .0) (ap (drop 2) (h .1)),
+  λ h. let w = said-widths (drop 2 e) x (h .says) in (w .0, h .sensible, opened k ∙ ap (λ (l : List ℕ). mark ++ l) (w .1)),
+  λ h. record { says = forms-said (drop 2 e) x (h .0) (ap (drop 2) (h .2)); sensible = h .1 },
 )
 
 pub one-form : OneForm
 one-form x y h j e =
-    let a : Good (formsOf (numbersOf x)) x = forms-good (formsOf (numbersOf x)) x h refl in
-    let b : Good (formsOf (numbersOf x)) y = forms-good (formsOf (numbersOf x)) y j (ap (drop 2) e) in
-    same-numbers (one-said a b .0)
+    let l = formsOf (numbersOf x) in
+    same-numbers (one-said (forms-said l x h refl) (forms-said l y j (ap (drop 2) e)) .0)
 
 pub form-stands : (x : Entry) → OfWidths x → EntryAt (entryForm x) 0 (entryForm x)
 form-stands x h =
@@ -107,25 +112,56 @@ form-stands x h =
       there = take-length (mark ++ l);
       ends = record {
         from = omega arith;
-        none-before = λ q i j k. no-mark-said fields-refuse (forms-good l x h refl) (q - 2) (omega arith) (part-behind (mark ++ l) 2 q i (omega arith) k);
+        none-before = λ q i j k. no-mark-said fields-refuse (forms-said l x h refl) (q - 2) (omega arith) (part-behind (mark ++ l) 2 q i (omega arith) k);
         there = inr (omega arith);
       };
     }
 
-pub written-back : WrittenBack
-written-back x before at n after r h w k =
-    let f = entryForm x in
-    let there = laid-there f before at (W.Bytes n) after w n refl in
-    let stands = form-stands x h in
-    let few : length f ≤ blockLimit =
-    omega (arith, entry-takes x, form-ten (x .segment) (h .segment), form-ten (x .sentence) (h .sentence), signed-ten (x .turn) (mag-of-within (x .turn) (2 ^ 63) (omega arith) (h .turn .0) (h .turn .1))) in
-    let alone = reads-first (good x) few (record {
-      place = 0;
-      count = length f;
+few-bytes : (x : Entry) → OfWidths x → length (entryForm x) ≤ blockLimit
+few-bytes x h =
+    omega (
+      arith,
+      entry-takes x,
+      form-ten (x .segment) (h .segment),
+      form-ten (x .sentence) (h .sentence),
+      signed-ten (x .turn) (mag-of-within (x .turn) (2 ^ 63) (omega arith) (h .turn .0) (h .turn .1)),
+    )
+
+form-read : {s : List ℕ} {p : ℕ} (x : Entry) (v : Verdict) → length s ≤ blockLimit → EntryAt s p (entryForm x) → Judged (formsOf (numbersOf x)) v
+    → (r : ReadEntry) → ReadsEntry s p r → r ≡ answerOf v (p + length (entryForm x))
+form-read {s} {p} x v short stands j r k =
+    let n = length (entryForm x) in
+    let first = reads-first v short (record {
+      place = p;
+      count = n;
       first = next-here (stands .opens);
-      entry = record { bytes = f; stands = stands; count = refl; judged = is-good (forms-good (formsOf (numbersOf x)) x h refl) };
+      entry = record { bytes = entryForm x; stands = stands; count = refl; judged = j };
       ends = refl;
     }) in
-    let k′ : ReadsEntry f 0 r = subst (λ (s : List ℕ). ReadsEntry s 0 r) (there .1) k in
-    let e : 0 + length f ≡ n .0 = omega (arith, there .0) in
-    same-entry r (R.Good x (record { 0 = 0 + length f })) (one-answered (k′ .answer) (alone .answer)) ∙ ap (λ (i : ℕ). R.Good x (record { 0 = i })) e
+    same-entry r (answerOf v (p + n)) (one-answered (k .answer) (first .answer))
+
+absurd-bad : (x : Entry) → OfWidths x → Absurd (x .turn) → Judged (formsOf (numbersOf x)) bad
+absurd-bad x h k = is-bad (λ y g. absurd-said (forms-said (formsOf (numbersOf x)) x h refl) k y [] g)
+
+pub absurd-read : AbsurdRead
+absurd-read s p x r short h k stands = form-read x bad short stands (absurd-bad x h k) r
+
+pub written-back : WrittenBack
+written-back x before at n after r h (absurd-turn k e i) q = apart (ap meansWritten e)
+written-back x before at n after r h (sensible-turn k w) q =
+    let l = formsOf (numbersOf x) in
+    let there = laid-there (entryForm x) before at (W.Bytes n) after w n refl in
+    let e : 0 + length (entryForm x) ≡ n .0 = omega (arith, there .0) in
+    form-read x (good x) (few-bytes x h) (form-stands x h) (is-good (record { says = forms-said l x h refl; sensible = k })) r (subst (λ (s : List ℕ). ReadsEntry s 0 r) (there .1) q)
+    ∙ ap (λ (i : ℕ). R.Good x (record { 0 = i })) e
+
+good-sensible : {l : List ℕ} {v : Verdict} {x : Entry} → Judged l v → v ≡ good x → Absurd (x .turn) → ⊥
+good-sensible {x = x} j e = elim (rw e at j) [ is-good g ↦ g .sensible ]
+
+pub refused-unread : RefusedUnread
+refused-unread x before at after h (absurd-turn k e i) =
+    let z : 0 + length (entryForm x) ≡ length (entryForm x) = omega arith in (
+      λ r w. absurd-read (entryForm x) 0 x r (few-bytes x h) h k (form-stands x h) w ∙ ap (λ (n : ℕ). R.Bad Why.Entry (record { 0 = n })) z,
+      λ s p q w. good-sensible (first-of (good x) (w .answer) refl .1 .entry .judged) refl k,
+    )
+refused-unread x before at after h (sensible-turn k w) = absurd (omega (arith, refused-by w Why.Entry refl))

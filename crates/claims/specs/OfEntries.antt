@@ -1,14 +1,17 @@
--- What is claimed of entries: document 02, #102. Where an entry stands is entries/specs/Standing.antt, what it says is entries/specs/Saying.antt, and the
--- rows of the refusals stand beside the promise there. Damage: a stretch x of the block a ++ x ++ b is replaced by y, any of them empty.
+-- What is claimed of entries: document 02, #102 and #111. Where an entry stands is entries/specs/Standing.antt, what it says is
+-- entries/specs/Saying.antt, and the rows of the refusals stand beside the promise there. Damage: a stretch x of the block a ++ x ++ b is replaced by
+-- y, any of them empty.
 --
 --   GoodRead, BadRead        a good entry is given, and 10 for a bad one, exactly when the first entry from the place on is that
 --   RefusesEntry             7, 4 and 8 are given exactly by their rows
 --   OfWidths x               the numbers of x are of their widths
 --   EntryTries               bytes to try
---   GoodForm                 the bytes of a good entry are exactly the form of what it says,
+--   GoodForm                 the bytes of a good entry are exactly the form of what it says, with no absurd turn,
 --   OneForm                  and that is the form of nothing else
---   WritesEntries            the writer: that form at the place and all else kept, or 5
+--   AbsurdRead               10 is the answer to an entry that is such a form but for its absurd turn
+--   WritesEntries            the writer: 10 for an absurd turn, else that form at the place and all else kept, or 5
 --   WrittenBack              an entry written alone reads back
+--   RefusedUnread            and one refused by 10 would not have
 --   EntryOfMark              each mark opens one entry
 --   EntriesInOrder           entries read one after another from a place on are those of the marks from there on, in order, and no other
 --   MarkUnread               a step and the listing still call a mark NotShortest, decided by its second byte
@@ -38,7 +41,7 @@ use Rattle.blocks.specs.Places.{ending, from, less}
 use Rattle.blocks.specs.Readings.{Block}
 use Rattle.blocks.specs.declared.Rule.{Rule}
 use Rattle.entries.specs.Standing.{mark, EntryAt}
-use Rattle.entries.specs.Saying.{Good, Verdict, good, bad, Judged}
+use Rattle.entries.specs.Saying.{Absurd, Good, Verdict, good, bad, Judged}
 use Rattle.entries.specs.Promise.{FirstEntry, EntryRefused, ReadsEntry, entryForm, WritesEntry}
 use Rattle.entries.specs.Given.{EntriesGiven, EntriesFrom}
 use Rattle.entries.specs.declared.Entry.{Entry}
@@ -62,12 +65,16 @@ abbrev pub RefusesEntry : Type 0
 RefusesEntry = (s : List ℕ) (p : ℕ) (r : ReadEntry) → ReadsEntry s p r → (why : Refusal) → (r ≡ R.Refused why) ↔ EntryRefused s p why
 
 -- Bytes to try: behind a mark, 01 02 7f is a good entry, and its turn is -1; with a tail behind it, or a fourth group, or without its third, it is
--- bad. In 81 80 00 no mark stands.
+-- bad. Turns of 400 and of -400 pass, 401 and -401 don't. In 81 80 00 no mark stands.
 pub record EntryTries : Type 0 where
   pub three-groups : Judged (0x01 ∷ 0x02 ∷ 0x7f ∷ []) (good (record { segment = 1; sentence = 2; turn = negℤ (pos 1) }))
   pub with-a-tail : Judged (0x01 ∷ 0x02 ∷ 0x7f ∷ 0x80 ∷ []) bad
   pub with-a-fourth : Judged (0x01 ∷ 0x02 ∷ 0x7f ∷ 0x03 ∷ []) bad
   pub without-the-third : Judged (0x01 ∷ 0x02 ∷ []) bad
+  pub turn-of-400 : Judged (0x01 ∷ 0x02 ∷ 0x90 ∷ 0x03 ∷ []) (good (record { segment = 1; sentence = 2; turn = pos 400 }))
+  pub turn-of-401 : Judged (0x01 ∷ 0x02 ∷ 0x91 ∷ 0x03 ∷ []) bad
+  pub turn-of-minus-400 : Judged (0x01 ∷ 0x02 ∷ 0xf0 ∷ 0x7c ∷ []) (good (record { segment = 1; sentence = 2; turn = negℤ (pos 400) }))
+  pub turn-of-minus-401 : Judged (0x01 ∷ 0x02 ∷ 0xef ∷ 0x7c ∷ []) bad
   pub in-a-longer-group : (q : ℕ) → GroupAt (0x81 ∷ 0x80 ∷ 0x00 ∷ []) q mark → ⊥
 
 pub record OfWidths (x : Entry) : Type 0 where
@@ -75,24 +82,36 @@ pub record OfWidths (x : Entry) : Type 0 where
   pub sentence : OfWidth loop64 (x .sentence)
   pub turn : OfWidth signed64 (x .turn)
 
--- The bytes of a good entry are exactly the form of its numbers, each of its width,
+-- The bytes of a good entry are exactly the form of its numbers, each of its width, with no absurd turn,
 abbrev pub GoodForm : Type 0
-GoodForm = (s : List ℕ) (p : ℕ) (e : List ℕ) → EntryAt s p e → (x : Entry) → Good (drop 2 e) x ↔ (OfWidths x × (e ≡ entryForm x))
+GoodForm = (s : List ℕ) (p : ℕ) (e : List ℕ) → EntryAt s p e → (x : Entry) → Good (drop 2 e) x ↔ (OfWidths x × (Absurd (x .turn) → ⊥) × (e ≡ entryForm x))
 
 -- and of no others.
 abbrev pub OneForm : Type 0
 OneForm = (x y : Entry) → OfWidths x → OfWidths y → entryForm x ≡ entryForm y → x ≡ y
 
--- The writer answers the count and leaves exactly that form at the place and all else kept, or answers 5 and leaves every byte, the latter
--- exactly when it doesn't fit.
+-- An entry whose numbers all read, with an absurd turn, is refused by 10, with the place where it ends.
+abbrev pub AbsurdRead : Type 0
+AbsurdRead = (s : List ℕ) (p : ℕ) (x : Entry) (r : ReadEntry) → length s ≤ blockLimit → OfWidths x → Absurd (x .turn)
+    → EntryAt s p (entryForm x) → ReadsEntry s p r → r ≡ R.Bad Why.Entry (record { 0 = p + length (entryForm x) })
+
+-- The writer answers 10 and leaves every byte exactly when the turn is absurd, whatever the room. Else it answers the count and leaves exactly the
+-- entry's form at the place and all else kept, or answers 5 and leaves every byte, the latter exactly when it doesn't fit.
 abbrev pub WritesEntries : Type 0
-WritesEntries = (x : Entry) (before : List ℕ) (at : ℕ) (r : Written) (after : List ℕ) → WritesEntry x before at r after
-    → LaysExactly (entryForm x) before at r after
+WritesEntries = (x : Entry) (before : List ℕ) (at : ℕ) (r : Written) (after : List ℕ) → WritesEntry x before at r after →
+    (Absurd (x .turn) ↔ ((r ≡ W.Refused Why.Entry) × (after ≡ before)))
+    × ((Absurd (x .turn) → ⊥) → LaysExactly (entryForm x) before at r after)
 
 -- The bytes that were written, read alone, are that entry, and it ends with them.
 abbrev pub WrittenBack : Type 0
 WrittenBack = (x : Entry) (before : List ℕ) (at : ℕ) (n : Count) (after : List ℕ) (r : ReadEntry) → OfWidths x
     → WritesEntry x before at (W.Bytes n) after → ReadsEntry (take (n .0) (drop at after)) 0 r → r ≡ R.Good x (record { 0 = n .0 })
+
+-- What the writer refuses by 10 would not have read back: its form, read alone, is bad, and no bytes are read as that entry.
+abbrev pub RefusedUnread : Type 0
+RefusedUnread = (x : Entry) (before : List ℕ) (at : ℕ) (after : List ℕ) → OfWidths x → WritesEntry x before at (W.Refused Why.Entry) after →
+    ((r : ReadEntry) → ReadsEntry (entryForm x) 0 r → r ≡ R.Bad Why.Entry (record { 0 = length (entryForm x) }))
+    × ((s : List ℕ) (p : ℕ) (q : Place) → ReadsEntry s p (R.Good x q) → ⊥)
 
 -- Each mark opens one entry, and nothing else opens one.
 abbrev pub EntryOfMark : Type 0
@@ -155,8 +174,10 @@ pub record OfEntries : Type 0 where
   pub entry-tries : EntryTries
   pub good-form : GoodForm
   pub one-form : OneForm
+  pub absurd-read : AbsurdRead
   pub entry-written : WritesEntries
   pub written-back : WrittenBack
+  pub refused-unread : RefusedUnread
   pub entry-of-mark : EntryOfMark
   pub entries-in-order : EntriesInOrder
   pub mark-unread : MarkUnread

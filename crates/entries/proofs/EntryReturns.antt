@@ -12,7 +12,7 @@ use lib.Seq.{drop-drop, take-all}
 use Rattle.words.specs.declared.Refusal.the-variants as Why
 use Rattle.blocks.specs.Block.{blockLimit}
 use Rattle.entries.specs.Standing.{EndsAt, NextMark}
-use Rattle.entries.specs.Saying.{fields, Says, numbersOf, Good, Verdict, good, bad, Judged, is-good, is-bad}
+use Rattle.entries.specs.Saying.{SaysEntry, Good, Verdict, good, bad, Judged, is-good, is-bad}
 use Rattle.entries.specs.Inner.{Hears}
 use Rattle.entries.specs.Promise.{too-long, past, no-mark, ended, Answered, row, found, ReadsEntry}
 use Rattle.entries.specs.declared.Entry.{Entry}
@@ -44,11 +44,11 @@ module _ (s : List ℕ) (p : ℕ) where
   from-place = take-all (length s - p) (drop p s) (omega (arith, length-drop p s))
 
   pub heard-numbers : {r : Said} {x : Entry} {n : ℕ} → r ≡ Numbers x n → Hears (take (length s - p) (drop p s)) r
-      → (n ≤ length (drop p s)) × Says fields (drop p s) (numbersOf x) (drop n (drop p s))
-  heard-numbers {x = x} {n = n} e h = subst (λ (l : List ℕ). (n ≤ length l) × Says fields l (numbersOf x) (drop n l)) from-place (rw e at h)
+      → (n ≤ length (drop p s)) × SaysEntry (drop p s) x (drop n (drop p s))
+  heard-numbers {x = x} {n = n} e h = subst (λ (l : List ℕ). (n ≤ length l) × SaysEntry l x (drop n l)) from-place (rw e at h)
 
-  pub heard-fault : {r : Said} → r ≡ Fault → Hears (take (length s - p) (drop p s)) r → (x : Entry) (rest : List ℕ) → Says fields (drop p s) (numbersOf x) rest → ⊥
-  heard-fault e h = subst (λ (l : List ℕ). (x : Entry) (rest : List ℕ) → Says fields l (numbersOf x) rest → ⊥) from-place (rw e at h)
+  pub heard-fault : {r : Said} → r ≡ Fault → Hears (take (length s - p) (drop p s)) r → (x : Entry) (rest : List ℕ) → SaysEntry (drop p s) x rest → ⊥
+  heard-fault e h = subst (λ (l : List ℕ). (x : Entry) (rest : List ℕ) → SaysEntry l x rest → ⊥) from-place (rw e at h)
 
 module _ {s : List ℕ} {p : ℕ} where
   pub block-too-long : blockLimit < length s → ReadsEntry s p (R.Refused Why.TooLong)
@@ -78,34 +78,34 @@ module _ {s : List ℕ} {p : ℕ} where
         first-inside = mark-inside (next-is a inside)
 
         -- numbers behind the mark, up to the place where the entry can end
-        module _ {x : Entry} {n : ℕ} (within : n ≤ length (drop (m + 2) s)) (says : Says fields (drop (m + 2) s) (numbersOf x) (drop n (drop (m + 2) s))) where
+        module _ {x : Entry} {n : ℕ} (within : n ≤ length (drop (m + 2) s)) (said : SaysEntry (drop (m + 2) s) x (drop n (drop (m + 2) s))) where
           ends-next : EndsAt s (m + 2 + n) → NextMark s (m + 2) (m + 2 + n)
           ends-next there = record {
             from = omega arith;
             none-before = λ q h l k.
-                no-mark-said fields-refuse says (q - (m + 2)) (omega (arith, length-drop n (drop (m + 2) s))) (part-behind s (m + 2) q h first-inside k);
+                no-mark-said fields-refuse (said .says) (q - (m + 2)) (omega (arith, length-drop n (drop (m + 2) s))) (part-behind s (m + 2) q h first-inside k);
             there = there;
           }
 
           pub entry-good : EndsAt s (m + 2 + n) → ReadsEntry s p (R.Good x (record { 0 = m + 2 + n }))
           entry-good there =
               let e : n ≡ m + 2 + n - (m + 2) = omega arith in
-              record { answer = judged (good x) (ends-next there) (subst (λ (k : ℕ). Judged (take k (drop (m + 2) s)) (good x)) e (is-good (said-alone n within says))) }
+              record { answer = judged (good x) (ends-next there) (subst (λ (k : ℕ). Judged (take k (drop (m + 2) s)) (good x)) e (is-good (record { says = said-alone n within (said .says); sensible = said .sensible }))) }
 
         -- the end of an entry whose numbers, if there are any, don't end with it
         module _ {n : ℕ} (b : NextMark s (m + 2) n) where
-          whole : {y : Entry} → Good (take (n - (m + 2)) (drop (m + 2) s)) y → Says fields (drop (m + 2) s) (numbersOf y) (drop (n - (m + 2)) (drop (m + 2) s))
-          whole g = said-within (n - (m + 2)) g
+          whole : {y : Entry} → Good (take (n - (m + 2)) (drop (m + 2) s)) y → SaysEntry (drop (m + 2) s) y (drop (n - (m + 2)) (drop (m + 2) s))
+          whole g = record { says = said-within (n - (m + 2)) (g .says); sensible = g .sensible }
 
-          pub entry-faulty : ((y : Entry) (rest : List ℕ) → Says fields (drop (m + 2) s) (numbersOf y) rest → ⊥) → ReadsEntry s p (R.Bad Why.Entry (record { 0 = n }))
+          pub entry-faulty : ((y : Entry) (rest : List ℕ) → SaysEntry (drop (m + 2) s) y rest → ⊥) → ReadsEntry s p (R.Bad Why.Entry (record { 0 = n }))
           entry-faulty none = record { answer = judged bad b (is-bad (λ y g. none y (drop (n - (m + 2)) (drop (m + 2) s)) (whole g))) }
 
-          pub entry-longer : {x : Entry} {k : ℕ} → k ≤ length (drop (m + 2) s) → Says fields (drop (m + 2) s) (numbersOf x) (drop k (drop (m + 2) s))
+          pub entry-longer : {x : Entry} {k : ℕ} → k ≤ length (drop (m + 2) s) → SaysEntry (drop (m + 2) s) x (drop k (drop (m + 2) s))
               → (EndsAt s (m + 2 + k) → ⊥) → ReadsEntry s p (R.Bad Why.Entry (record { 0 = n }))
-          entry-longer {k = k} h says none = record {
+          entry-longer {k = k} h said none = record {
             answer = judged bad b (is-bad (λ y g.
                 let l = drop (m + 2) s in
-                let e : length (drop k l) ≡ length (drop (n - (m + 2)) l) = ap length (one-said says (whole g) .1) in
+                let e : length (drop k l) ≡ length (drop (n - (m + 2)) l) = ap length (one-said (said .says) (whole g .says) .1) in
                 let i : n ≡ m + 2 + k = omega (arith, length-drop k l, length-drop (n - (m + 2)) l, length-drop (m + 2) s, b .from, next-within b) in
                 none (subst (EndsAt s) i (b .there))));
           }

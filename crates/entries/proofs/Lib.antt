@@ -1,5 +1,6 @@
 pub mod NextMarks
 pub mod Standing
+pub mod AbsurdTurns
 pub mod SaysGroups
 pub mod NoMarkInside
 pub mod Heard

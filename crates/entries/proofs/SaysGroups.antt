@@ -9,6 +9,7 @@
 --   said-within    and back
 --   says-or-not    bytes say something or they don't
 --   same-numbers   an entry is told by its numbers
+--   absurd-said    bytes whose numbers have an absurd turn begin with no entry's
 --   one-verdict    there is one verdict on bytes
 --   some-verdict   and there is some
 use Prim.Native.Nat.{ℕ, _+_, _≤_, _<_}
@@ -29,8 +30,9 @@ use Rattle.groups.specs.Width.{reading}
 use Rattle.uleb128.specs.Unsigned.{u64}
 use Rattle.sleb128.specs.Signed.{i64}
 use Rattle.blocks.specs.Block.{Val, unsigned, signed, valued}
-use Rattle.entries.specs.Saying.{Field, fields, Says, nothing, field, numbersOf, Verdict, good, bad, Judged, is-good, is-bad}
+use Rattle.entries.specs.Saying.{Field, fields, Says, nothing, field, numbersOf, Absurd, SaysEntry, Verdict, good, bad, Judged, is-good, is-bad}
 use Rattle.entries.specs.declared.Entry.{Entry}
+use Rattle.entries.proofs.AbsurdTurns.{absurd-or-not}
 
 pub one-front : {g h rest more : List ℕ} → Group g → Group h → g ++ rest ≡ h ++ more → (g ≡ h) × (rest ≡ more)
 one-front {g} {h} {rest} {more} r q e =
@@ -138,19 +140,24 @@ says-entry (field {g = g} {v = v} r e (field {g = g′} {v = v′} r′ e′ (fi
     let c : signed (integer v″) ≡ v″ = is-signed (reading i64 g″) e″ in
     rw (a, b, c) (field r e (field r′ e′ (field r″ e″ nothing i″) i′) i)
 
+pub absurd-said : {l rest : List ℕ} {x : Entry} → Says fields l (numbersOf x) rest → Absurd (x .turn) → (y : Entry) (more : List ℕ) → SaysEntry l y more → ⊥
+absurd-said {x = x} said h y more g = let e : y ≡ x = same-numbers (one-said (g .says) said .0) in g .sensible (rw e h)
+
 pub one-verdict : {l : List ℕ} {v w : Verdict} → Judged l v → Judged l w → v ≡ w
-one-verdict (is-good x) (is-good y) = ap good (same-numbers (one-said x y .0))
+one-verdict (is-good x) (is-good y) = ap good (same-numbers (one-said (x .says) (y .says) .0))
 one-verdict (is-good {x = x} p) (is-bad none) = absurd (none x p)
 one-verdict (is-bad none) (is-good {x = x} p) = absurd (none x p)
 one-verdict (is-bad none) (is-bad also) = refl
 
--- numbers are all that there is, or bytes stand behind them
+-- numbers are all that there is, or bytes stand behind them; and their turn is absurd, or it isn't
 all-or-more : {l : List ℕ} {x : Entry} (rest : List ℕ) → Says fields l (numbersOf x) rest → (v : Verdict) × Judged l v
-all-or-more {x = x} [] y = (good x, is-good y)
-all-or-more (b ∷ rest) y = (bad, is-bad (λ x z. let e : _≡_ {A = ℕ} 0 (length (b ∷ rest)) = ap length (one-said z y .1) in omega arith))
+all-or-more {x = x} [] y =
+    ⊎-elim (λ h. (bad, is-bad (λ z g. absurd-said y h z [] g)))
+    (λ h. (good x, is-good (record { says = y; sensible = h }))) (absurd-or-not (x .turn))
+all-or-more (b ∷ rest) y = (bad, is-bad (λ x g. let e : _≡_ {A = ℕ} 0 (length (b ∷ rest)) = ap length (one-said (g .says) y .1) in omega arith))
 
 pub some-verdict : (l : List ℕ) → Bytes l → (v : Verdict) × Judged l v
 some-verdict l bytes =
     ⊎-elim (λ (x : (vs : List Val) × (rest : List ℕ) × Says fields l vs rest). all-or-more (x .1) (says-entry (x .2)))
-    (λ (none : (vs : List Val) (rest : List ℕ) → Says fields l vs rest → ⊥). (bad, is-bad (λ x. none (numbersOf x) [])))
+    (λ (none : (vs : List Val) (rest : List ℕ) → Says fields l vs rest → ⊥). (bad, is-bad (λ x g. none (numbersOf x) [] (g .says))))
     (says-or-not fields l bytes)

@@ -8,7 +8,7 @@
 --   meansReadEntry         what the reader's answer says
 --   ReadsEntry s p r       reading an entry of the block s at the place p or later answers r
 --   entryForm x            the bytes of an entry that says x: the mark, and the forms of its numbers
---   WritesEntry x s at r out   writing the entry x at the place of s answers r and leaves out
+--   WritesEntry x s at r out   writing the entry x at the place of s answers r and leaves out: 10 and all as it was, or the form laid down
 use Prim.Native.Nat.{ℕ, _+_, _≤_, _<_}
 use mathlib.Core.Path.{_≡_}
 use mathlib.Core.List.{List, _++_}
@@ -18,10 +18,11 @@ use Rattle.words.specs.Lays.{Lays}
 use Rattle.words.specs.declared.Refusal.{Refusal}
 use Rattle.words.specs.declared.Refusal.the-variants as Why
 use Rattle.words.specs.declared.Written.{Written}
+use Rattle.words.specs.declared.Written.the-variants as W
 use Rattle.blocks.specs.Block.{blockLimit}
 use Rattle.blocks.specs.GroupsAndTail.{GroupAt}
 use Rattle.entries.specs.Standing.{mark, NextMark, EntryAt}
-use Rattle.entries.specs.Saying.{numbersOf, Verdict, good, bad, Judged, formsOf}
+use Rattle.entries.specs.Saying.{numbersOf, Absurd, Verdict, good, bad, Judged, formsOf}
 use Rattle.entries.specs.declared.Entry.{Entry}
 use Rattle.entries.specs.declared.ReadEntry.{ReadEntry}
 use Rattle.entries.specs.declared.ReadEntry.the-variants.{Good, Bad, Refused}
@@ -63,5 +64,6 @@ pub record ReadsEntry (s : List ℕ) (p : ℕ) (r : ReadEntry) : Type 0 where
 abbrev pub entryForm : Entry → List ℕ
 entryForm x = mark ++ formsOf (numbersOf x)
 
-abbrev pub WritesEntry : Entry → List ℕ → ℕ → Written → List ℕ → Type 0
-WritesEntry x s at r out = Lays (entryForm x) s at r out
+pub data WritesEntry (x : Entry) (s : List ℕ) (at : ℕ) (r : Written) (out : List ℕ) : Type 0 where
+  absurd-turn : Absurd (x .turn) → r ≡ W.Refused Why.Entry → out ≡ s → WritesEntry x s at r out
+  sensible-turn : (Absurd (x .turn) → ⊥) → Lays (entryForm x) s at r out → WritesEntry x s at r out

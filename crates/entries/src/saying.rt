@@ -1,16 +1,30 @@
-// What an entry says: a number for each field.
+// What an entry says: a number for each field, and the turn is not absurd.
 use crate::Entry;
 use sleb128::ReadI64;
 use sleb128::read_i64;
 use uleb128::ReadU64;
 use uleb128::read_u64;
 use words::Place;
-ghost use Rattle.entries.specs.Inner.{Hears};
+ghost use Rattle.entries.specs.Inner.{Tells, Hears};
+ghost use Rattle.entries.specs.Saying.{Absurd};
 
-// What bytes begin with: the numbers of an entry, in so many bytes; or one of them is missing or doesn't read.
+// What bytes begin with: the numbers of an entry, in so many bytes; or one of them is missing, doesn't read or is an absurd turn.
 pub(crate) enum Said {
     Numbers(Entry, usize),
     Fault,
+}
+
+// Whether no entry may have this turn: 400 quarters either way are the most.
+pub(crate) fn is_absurd(turn: i64) -> bool
+    ensures { λ r. ⌜ Tells (Absurd turn) r ⌝ }
+{
+    if 400 < turn {
+        return true;
+    }
+    if turn < -400 {
+        return true;
+    }
+    false
 }
 
 // What these bytes, from behind a mark on, begin with.
@@ -31,6 +45,10 @@ pub(crate) fn hear(bytes: &[u8]) -> Said
                         ReadI64::Number(turn, count3) => {
                             let n3 = count3.0;
                             let all = third + n3;
+                            let absurd = is_absurd(turn);
+                            if absurd {
+                                return Said::Fault;
+                            }
                             let entry = Entry {
                                 segment,
                                 sentence,

@@ -1,5 +1,6 @@
 // Writing an entry: the room is known before the first byte is stored.
 use crate::Entry;
+use crate::saying::is_absurd;
 use bits::take_low_7_bits;
 use groups::Value;
 use groups::store;
@@ -81,12 +82,16 @@ fn put_entry(entry: Entry, buffer: &mut [u8], at: usize) -> usize
     put(Value::Signed(entry.turn), buffer, third)
 }
 
-// Lays the entry down at the place, its mark first, and answers its count of bytes; else 5, and no byte is changed.
+// Lays the entry down at the place, its mark first, and answers its count of bytes; else 10 for an absurd turn, then 5, and no byte is changed.
 pub fn write_entry(entry: Entry, buffer: &mut [u8], place: Place) -> Written
     ensures { λ r. ⌜ WritesEntry entry (now (buffer .entry)) (place .0) r (now (buffer .exit)) ⌝ }
 {
+    let absurd = is_absurd(entry.turn);
     let all = entry_length(entry);
     let room = has_room(buffer.len(), place, all);
+    if absurd {
+        return Written::Refused(Refusal::Entry);
+    }
     if !room {
         return Written::Refused(Refusal::NoRoom);
     }
