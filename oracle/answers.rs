@@ -241,7 +241,7 @@ fn entry_line(frame: &Frame) -> String {
     }
 }
 
-/// The language is not looked at. The writer's 10 is said without a place, as its 5 is: `refused 10 HEX`.
+/// The language is not looked at. The writer's 10 is said as its 5 is, without a place.
 fn entry_write_line(frame: &Frame) -> String {
     let Some((numbers, rest)) = frame.bytes.split_at_checked(32) else {
         return UNKNOWN.to_string();
