@@ -1,8 +1,8 @@
 -- What is claimed of entries, proved.
 --
---   bad-by                       what an answer of 10 rests on
+--   bad-by                      what an answer of 10 rests on
 --   one-written, some-written   the writer's promise is met by one answer on every input
---   entries                      the chapter
+--   entries                     the chapter
 use Prim.Native.Nat.{ℕ, _≤_}
 use mathlib.Core.List.{List}
 use mathlib.Core.Path.{_≡_, refl, ap, sym, _∙_, subst}

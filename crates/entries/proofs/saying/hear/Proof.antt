@@ -1,4 +1,4 @@
--- `entries::hear` keeps what it promises inside the crate: field by field, `Heard` holds.
+-- `entries::hear` keeps what it promises inside the crate: field by field, `Heard` holds, and the turn is absurd or it isn't.
 use Prim.Native.Nat.{_+_}
 use mathlib.Core.List.{[], _∷_}
 use native.Mathlib.Omega.{arith}
