@@ -64,7 +64,7 @@ pub(crate) fn answer(
 ) -> Count {
     let op = frame.op;
     match op {
-        5..=8 | 16 | 20 | 24..=25 => writes::answer(frame, bytes, list, text, out),
+        5..=8 | 16 | 20 | 24 => writes::answer(frame, bytes, list, out),
         15 => slices::read_strict(frame.a, bytes, slots, out),
         18 => listings::list(bytes, text, out),
         22 => slices::read_phrase(frame, bytes, list, slots, out),

@@ -114,7 +114,6 @@ fn entry(entry: Entry) -> Line {
     says(b"entry")
         .number(entry.segment)
         .number(entry.sentence)
-        .number(entry.language as u64)
         .signed(entry.turn)
 }
 

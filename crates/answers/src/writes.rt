@@ -6,7 +6,6 @@ use crate::numbers::Narrow;
 use crate::settings::Asked;
 use crate::{hex, numbers, said, settings};
 use entries::Entry;
-use texts::word;
 use words::{Count, Place, Written};
 
 // What comes of such an op: the writer's answer, and the place from which on it was lent the bytes; or the op is unknown.
@@ -55,52 +54,22 @@ fn write_setting(kind: u64, bytes: &mut [u8], place: Place) -> Wrote {
     }
 }
 
-// An entry, whose numbers stand in the first 32 bytes, into the bytes behind them: segment, sentence, language and turn.
+// An entry, whose numbers stand in the first 32 bytes, into the bytes behind them: segment, sentence, eight bytes that are not looked at,
+// and the turn.
 fn write_entry(bytes: &mut [u8], place: Place) -> Wrote {
     if bytes.len() < 32 {
         return Wrote::Unknown;
     }
-    match numbers::of_32_bits(eight(bytes, 16)) {
-        Narrow::Number(language) => {
-            let entry = Entry {
-                segment: eight(bytes, 0),
-                sentence: eight(bytes, 8),
-                language,
-                turn: numbers::signed(eight(bytes, 24)),
-            };
-            let answer = entries::write_entry(entry, &mut bytes[32..], place);
-            Wrote::Answer(answer, Place(32))
-        }
-        Narrow::TooLarge => Wrote::Unknown,
-    }
+    let entry = Entry {
+        segment: eight(bytes, 0),
+        sentence: eight(bytes, 8),
+        turn: numbers::signed(eight(bytes, 24)),
+    };
+    let answer = entries::write_entry(entry, &mut bytes[32..], place);
+    Wrote::Answer(answer, Place(32))
 }
 
-// Old entries, which stand in the first bytes, with the language into the bytes behind them. The block is laid down in the other room first: of the
-// bytes no part can be lent beside another that is stored to.
-fn convert_entries(frame: Frame, bytes: &mut [u8], block: &mut [u8]) -> Wrote {
-    let b = frame.b;
-    let behind = b as usize;
-    if bytes.len() < behind {
-        return Wrote::Unknown;
-    }
-    if block.len() < behind {
-        return Wrote::Unknown;
-    }
-    match numbers::of_32_bits(frame.a) {
-        Narrow::Number(language) => {
-            word(&bytes[0..behind], block, Count(0));
-            let answer = entries::convert_entries(
-                &block[0..behind],
-                language,
-                &mut bytes[behind..],
-            );
-            Wrote::Answer(answer, Place(behind))
-        }
-        Narrow::TooLarge => Wrote::Unknown,
-    }
-}
-
-fn write(frame: Frame, bytes: &mut [u8], list: &mut [u64], block: &mut [u8]) -> Wrote {
+fn write(frame: Frame, bytes: &mut [u8], list: &mut [u64]) -> Wrote {
     let op = frame.op;
     let a = frame.a;
     let b = frame.b;
@@ -114,7 +83,6 @@ fn write(frame: Frame, bytes: &mut [u8], list: &mut [u64], block: &mut [u8]) -> 
         16 => write_list(b, bytes, list, Place(a as usize)),
         20 => write_setting(a, bytes, place),
         24 => write_entry(bytes, Place(a as usize)),
-        25 => convert_entries(frame, bytes, block),
         _ => Wrote::Unknown,
     }
 }
@@ -130,13 +98,7 @@ fn lay(wrote: Wrote, bytes: &[u8], out: &mut [u8]) -> Count {
 }
 
 // The line for such an op.
-pub(crate) fn answer(
-    frame: Frame,
-    bytes: &mut [u8],
-    list: &mut [u64],
-    block: &mut [u8],
-    out: &mut [u8],
-) -> Count {
-    let wrote = write(frame, bytes, list, block);
+pub(crate) fn answer(frame: Frame, bytes: &mut [u8], list: &mut [u64], out: &mut [u8]) -> Count {
+    let wrote = write(frame, bytes, list);
     lay(wrote, bytes, out)
 }

@@ -4,31 +4,25 @@
 --   none_heard                 at first, none was read
 --   number_heard               where the next field's number is read, it is one of them
 --   fault_heard                where its reading is refused, the bytes say nothing
---   front_heard, front_unheard   where the first fields are heard, or not, the others are left, or nothing is said
 --   all_heard                  behind the last field, they say the numbers read
---   turn_unheard               where no turn but an absurd one is read behind all other fields, none but an absurd one is said
 --   case_read                  what is read is what an answer's case says
 use Prim.Native.Nat.{ℕ, ◌+◌, ◌≤◌}
-use mathlib.Core.Path.{◌≡◌, refl, ap, sym, ◌∙◌, subst}
+use mathlib.Core.Path.{◌≡◌, refl, ap, sym, ◌∙◌}
 use mathlib.Core.List.{List, [], ◌∷◌, ◌++◌, append-nil, append_assoc}
 use mathlib.Core.Bool.{false}
 use native.Mathlib.Omega.{arith}
-use lib.IntN.{ℤ}
 use lib.ListN.{length, drop}
 use lib.Seq.{drop-append_seam, drop-drop}
 use Rattle.words.specs.Answer.{Answer, gives, refused, Why}
-use Rattle.words.proofs.OneMeaning.{apart, by_answer}
+use Rattle.words.proofs.OneMeaning.{apart}
 use Rattle.groups.specs.Group.{Bytes, Group}
 use Rattle.groups.specs.Width.{Width, is_too_large, is_too_many, reading, read}
 use Rattle.groups.proofs.FromWalk.{Sound}
 use Rattle.groups.proofs.Rows.{read_from}
 use Rattle.groups.proofs.Stands.{Stands, read_stands, reading_behind, stands_through}
-use Rattle.sleb128.specs.Signed.{i64}
-use Rattle.sleb128.proofs.Widths as signed-widths
-use Rattle.blocks.specs.Block.{Val, signed, valued, read_by}
-use Rattle.blocks.specs.declared.Rule.TheVariants.{Signed}
-use Rattle.entries.specs.Saying.{Field, Says, nothing, field, Absurd}
-use Rattle.entries.proofs.SaysGroups.{behind_said, one_said}
+use Rattle.blocks.specs.Block.{Val, valued}
+use Rattle.entries.specs.Saying.{Field, Says, nothing, field}
+use Rattle.entries.proofs.SaysGroups.{behind_said}
 
 -- a group read in front of others is read as it is alone
 reading_front : {A : Type 0} (w : Width A) {g : List ℕ} (rest : List ℕ) → Group g → reading w (g ++ rest) ≡ reading w g
@@ -84,51 +78,6 @@ module _ {all : List Field} {s : List ℕ} (bytes : Bytes s) {at : ℕ} {left : 
 
 pub all_heard : {all : List Field} {s : List ℕ} {at : ℕ} {done : List Val} → Heard all s at [] done → Says all s done (drop at s)
 all_heard {s = s} {at = at} {done = done} k = rw (append-nil done) at (k.onward [] (drop at s) nothing)
-
--- fields in front of others
-says_join : {fs gs : List Field} {l mid rest : List ℕ} {vs us : List Val} → Says fs l vs mid → Says gs mid us rest → Says (fs ++ gs) l (vs ++ us) rest
-says_join nothing y = y
-says_join (field r e x i) y = field r e (says_join x y) i
-
-record SaidInTwo (fs gs : List Field) (l rest : List ℕ) : Type 0 where
-  pub first : List Val
-  pub others : List Val
-  pub behind : List ℕ
-  pub says_first : Says fs l first behind
-  pub says_others : Says gs behind others rest
-
-says_split : (fs : List Field) {gs : List Field} {l rest : List ℕ} {us : List Val} → Says (fs ++ gs) l us rest → SaidInTwo fs gs l rest
-says_split [] {l = l} {us = us} x = record { first = []; others = us; behind = l; says_first = nothing; says_others = x }
-says_split (f ∷ fs) (field {v = v} r e x i) =
-    let w = says_split fs x in
-    record { first = v ∷ w.first; others = w.others; behind = w.behind; says_first = field r e w.says_first i; says_others = w.says_others }
-
-module _ {front : List Field} (left : List Field) {s : List ℕ} where
-  pub front_heard : {n : ℕ} {vs : List Val} → n ≤ length s → Says front s vs (drop n s) → Heard (front ++ left) s n left vs
-  front_heard h said = record {
-    within = h;
-    onward = λ us rest x. says_join said x;
-    back = λ us rest x.
-        let w = says_split front x in
-        (w.others, subst (λ (l : List ℕ). Says left l w.others rest) (one_said w.says_first said).1 w.says_others);
-  }
-
-  pub front_unheard : ((vs : List Val) (rest : List ℕ) → Says front s vs rest → ⊥) → (us : List Val) (rest : List ℕ) → Says (front ++ left) s us rest → ⊥
-  front_unheard none us rest x = let w = says_split front x in none w.first w.behind w.says_first
-
-pub turn_unheard : {all : List Field} {s : List ℕ} {at : ℕ} {done : List Val} → Bytes s → Heard all s at (read_by Signed ∷ []) done
-    → ((t : ℤ) (n : ℕ) → read i64 s at ≡ gives (t, n) → Absurd t)
-    → (others : List Val) (t : ℤ) (rest : List ℕ) → length others ≡ length done → Says all s (others ++ (signed t ∷ [])) rest → Absurd t
-turn_unheard {s = s} {at = at} {done = done} bytes k none others t rest l x =
-    by_answer (read i64 s at)
-    (λ v e.
-    let same = (one_said (all_heard (number_heard bytes i64 signed-widths.sound signed k e refl)) x).0 in
-    let last : signed v.0 ∷ [] ≡ signed t ∷ [] =
-    sym (drop-append_seam done (signed v.0 ∷ [])) ∙ ap (drop (length done)) same ∙ ap (λ (n : ℕ). drop n (others ++ (signed t ∷ []))) (sym l)
-    ∙ drop-append_seam others (signed t ∷ []) in
-    let i : v.0 ≡ t = cc in
-    subst Absurd i (none v.0 v.1 e))
-    (λ why e. absurd (fault_heard bytes i64 signed-widths.sound signed k e (others ++ (signed t ∷ [])) rest x))
 
 pub case_read : {A R : Type 0} (means : R → Answer A) {a : Answer A} {r q : R} → means r ≡ a → r ≡ q → a ≡ means q
 case_read means p e = sym p ∙ ap means e

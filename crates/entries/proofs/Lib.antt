@@ -3,13 +3,9 @@ pub mod Standing
 pub mod AbsurdTurns
 pub mod SaysGroups
 pub mod NoMarkInside
-pub mod BehindMark
 pub mod Heard
 pub mod EntryReturns
 pub mod OneEntry
 pub mod PutEntry
-pub mod OldEntries
-pub mod Passes
-pub mod ConvertReturns
 pub mod SameList
 pub mod InOrder

@@ -1,7 +1,7 @@
 -- No mark stands among the numbers of an entry: each field refuses it.
 --
 --   mark_unread      by either rule a mark is refused by 3, decided by its second byte
---   Refuse fs        none of the fields fs reads a mark; `fields_refuse`, `old_refuse`: those of an entry, and of an old one
+--   Refuse fs        none of the fields fs reads a mark; `fields_refuse`: those of an entry
 --   part_behind      a mark of a block, in the bytes from some place before it on
 --   no_mark_said     where fields that refuse it read numbers, no mark begins in front of what stands behind these
 use Prim.Native.Nat.{ℕ, ◌+◌, ◌-◌, ◌≤◌, ◌<◌}
@@ -25,8 +25,7 @@ use Rattle.blocks.specs.declared.Rule.TheVariants.{Unsigned, Signed}
 use Rattle.blocks.proofs.FromStart.{front_start}
 use Rattle.blocks.proofs.Local.{groups_local}
 use Rattle.entries.specs.Standing.{mark}
-use Rattle.entries.specs.Saying.{Field, read_language, fields, Says, nothing, field}
-use Rattle.entries.specs.Converting.{old_fields}
+use Rattle.entries.specs.Saying.{Field, fields, Says, nothing, field}
 use Rattle.entries.proofs.NextMarks.{mark_group, mark_start}
 use Rattle.entries.proofs.SaysGroups.{one_front}
 
@@ -35,10 +34,6 @@ unfolding reading runs_out run is_too_large is_too_many
 mark_unread Unsigned = refl
 mark_unread Signed = refl
 
-language_unread : read_language mark ≡ refused (because_at NotShortest 1)
-unfolding reading runs_out run is_too_large is_too_many
-language_unread = refl
-
 abbrev pub Refuse : List Field → Type 0
 Refuse [] = Unit {0}
 Refuse (f ∷ fs) = ((v : Val) → f mark ≡ gives v → ⊥) × Refuse fs
@@ -46,10 +41,7 @@ Refuse (f ∷ fs) = ((v : Val) → f mark ≡ gives v → ⊥) × Refuse fs
 pub fields_refuse : Refuse fields
 fields_refuse =
     let none : (rule : Rule) (v : Val) → read_by rule mark ≡ gives v → ⊥ = λ rule v e. apart (sym e ∙ mark_unread rule) in
-    (none Unsigned, (none Unsigned, (λ v e. apart (sym e ∙ language_unread), (none Signed, tt))))
-
-pub old_refuse : Refuse old_fields
-old_refuse = (fields_refuse.0, (fields_refuse.1.0, fields_refuse.1.1.1))
+    (none Unsigned, (none Unsigned, (none Signed, tt)))
 
 -- a mark behind other bytes
 behind_part : (c b : List ℕ) (j : ℕ) → GroupAt (c ++ b) (length c + j) mark → GroupAt b j mark

@@ -53,14 +53,12 @@ pub signed_ten : (v : ℤ) → mag v < 2 ^ 63 → length (signedForm v) ≤ 10
 signed_ten v h = spelled_short (omega arith) 9 (form_spelled v) (omega arith)
 
 pub entry_takes : (x : Entry)
-    → length (entry_form x)
-    ≡ 2 + length (unsignedForm x.segment) + length (unsignedForm x.sentence) + length (unsignedForm x.language) + length (signedForm x.turn)
+    → length (entry_form x) ≡ 2 + length (unsignedForm x.segment) + length (unsignedForm x.sentence) + length (signedForm x.turn)
 entry_takes x =
     omega (
       arith,
-      length-append (unsignedForm x.segment) (forms_of (unsigned x.sentence ∷ unsigned x.language ∷ signed x.turn ∷ [])),
-      length-append (unsignedForm x.sentence) (forms_of (unsigned x.language ∷ signed x.turn ∷ [])),
-      length-append (unsignedForm x.language) (forms_of (signed x.turn ∷ [])),
+      length-append (unsignedForm x.segment) (forms_of (unsigned x.sentence ∷ signed x.turn ∷ [])),
+      length-append (unsignedForm x.sentence) (forms_of (signed x.turn ∷ [])),
       length-append (signedForm x.turn) [],
     )
 

@@ -7,9 +7,7 @@
 --   has_group      bytes that say a number have a group
 --   said_alone     what bytes begin with, those alone say that took it,
 --   said_within    and back
---   all_or_not     bytes say something, with nothing behind it, or they don't
---   natural, integer         the numbers told as values,
---   is_unsigned, is_signed   by a field that reads such numbers
+--   says_or_not    bytes say something or they don't
 --   same_numbers   an entry is told by its numbers
 --   absurd_said    bytes whose numbers have an absurd turn begin with no entry's
 --   one_verdict    there is one verdict on bytes
@@ -29,7 +27,7 @@ use Rattle.groups.specs.Group.{Bytes, Group, run}
 use Rattle.groups.proofs.Exact.{group_length}
 use Rattle.groups.proofs.Stands.{front_group, run_behind}
 use Rattle.groups.specs.Width.{reading}
-use Rattle.uleb128.specs.Unsigned.{u64, u32}
+use Rattle.uleb128.specs.Unsigned.{u64}
 use Rattle.sleb128.specs.Signed.{i64}
 use Rattle.blocks.specs.Block.{Val, unsigned, signed, valued}
 use Rattle.entries.specs.Saying.{Field, fields, Says, nothing, field, numbers_of, Absurd, SaysEntry, Verdict, good, bad, Judged, is_good, is_bad}
@@ -87,7 +85,7 @@ longer more (field {g = g} {more = behind} r e x i) = field r e (longer more x) 
 pub said_within : {fs : List Field} {l : List ℕ} {vs : List Val} (n : ℕ) → Says fs (take n l) vs [] → Says fs l vs (drop n l)
 said_within {fs} {l} {vs} n x = subst (λ (t : List ℕ). Says fs t vs (drop n l)) (take-append-drop n l) (longer (drop n l) x)
 
-says_or_not : (fs : List Field) (l : List ℕ) → Bytes l
+pub says_or_not : (fs : List Field) (l : List ℕ) → Bytes l
     → ((vs : List Val) × (rest : List ℕ) × Says fs l vs rest) ⊎ ((vs : List Val) (rest : List ℕ) → Says fs l vs rest → ⊥)
 says_or_not [] l bytes = inl ([], l, nothing)
 says_or_not (f ∷ fs) l bytes =
@@ -104,24 +102,12 @@ says_or_not (f ∷ fs) l bytes =
     (λ k e. inr (λ vs rest x. apart (sym (behind_said r i x).reads ∙ e))))
     (λ h. inr (λ vs rest x. omega (arith, has_group x)))
 
--- numbers are all that there is, or bytes stand behind them
-all_or_more : {fs : List Field} {l : List ℕ} {vs : List Val} (rest : List ℕ) → Says fs l vs rest
-    → ((us : List Val) × Says fs l us []) ⊎ ((us : List Val) → Says fs l us [] → ⊥)
-all_or_more {vs = vs} [] x = inl (vs, x)
-all_or_more (b ∷ rest) x = inr (λ us y. let e : ◌≡◌ {A = ℕ} 0 (length (b ∷ rest)) = ap length (one_said y x).1 in omega arith)
-
-pub all_or_not : (fs : List Field) (l : List ℕ) → Bytes l → ((vs : List Val) × Says fs l vs []) ⊎ ((vs : List Val) → Says fs l vs [] → ⊥)
-all_or_not fs l bytes =
-    ⊎_elim (λ (x : (vs : List Val) × (rest : List ℕ) × Says fs l vs rest). all_or_more x.1 x.2)
-    (λ (none : (vs : List Val) (rest : List ℕ) → Says fs l vs rest → ⊥). inr (λ vs x. none vs [] x))
-    (says_or_not fs l bytes)
-
 -- the way back from an entry's numbers
-unfoldable pub natural : Val → ℕ
+natural : Val → ℕ
 natural (unsigned v) = v
 natural (signed v) = 0
 
-unfoldable pub integer : Val → ℤ
+integer : Val → ℤ
 integer (unsigned v) = pos 0
 integer (signed v) = v
 
@@ -129,8 +115,7 @@ abbrev entry_of : List Val → Entry
 entry_of vs = record {
   segment = natural (get_or vs 0 (unsigned 0));
   sentence = natural (get_or vs 1 (unsigned 0));
-  language = natural (get_or vs 2 (unsigned 0));
-  turn = integer (get_or vs 3 (unsigned 0));
+  turn = integer (get_or vs 2 (unsigned 0));
 }
 
 pub same_numbers : {x y : Entry} → numbers_of x ≡ numbers_of y → x ≡ y
@@ -138,23 +123,22 @@ unfolding natural integer
 same_numbers e = ap entry_of e
 
 -- what the fields read is the numbers of an entry
-pub is_unsigned : (a : Answer (ℕ × ℕ)) {v : Val} → valued unsigned a ≡ gives v → unsigned (natural v) ≡ v
+is_unsigned : (a : Answer (ℕ × ℕ)) {v : Val} → valued unsigned a ≡ gives v → unsigned (natural v) ≡ v
 unfolding natural
 is_unsigned (gives x) e = rw (← (given e))
 is_unsigned (refused k) e = apart (sym e)
 
-pub is_signed : (a : Answer (ℤ × ℕ)) {v : Val} → valued signed a ≡ gives v → signed (integer v) ≡ v
+is_signed : (a : Answer (ℤ × ℕ)) {v : Val} → valued signed a ≡ gives v → signed (integer v) ≡ v
 unfolding integer
 is_signed (gives x) e = rw (← (given e))
 is_signed (refused k) e = apart (sym e)
 
 says_entry : {l rest : List ℕ} {vs : List Val} → Says fields l vs rest → Says fields l (numbers_of (entry_of vs)) rest
-says_entry (field {g = g} {v = v} r e (field {g = g'} {v = v'} r' e' (field {g = g''} {v = v''} r'' e'' (field {g = g'''} {v = v'''} r''' e''' nothing i''') i'') i') i) =
+says_entry (field {g = g} {v = v} r e (field {g = g'} {v = v'} r' e' (field {g = g''} {v = v''} r'' e'' nothing i'') i') i) =
     let a : unsigned (natural v) ≡ v = is_unsigned (reading u64 g) e in
     let b : unsigned (natural v') ≡ v' = is_unsigned (reading u64 g') e' in
-    let c : unsigned (natural v'') ≡ v'' = is_unsigned (reading u32 g'') e'' in
-    let d : signed (integer v''') ≡ v''' = is_signed (reading i64 g''') e''' in
-    rw (a, b, c, d) (field r e (field r' e' (field r'' e'' (field r''' e''' nothing i''') i'') i') i)
+    let c : signed (integer v'') ≡ v'' = is_signed (reading i64 g'') e'' in
+    rw (a, b, c) (field r e (field r' e' (field r'' e'' nothing i'') i') i)
 
 pub absurd_said : {l rest : List ℕ} {x : Entry} → Says fields l (numbers_of x) rest → Absurd x.turn → (y : Entry) (more : List ℕ) → SaysEntry l y more → ⊥
 absurd_said {x = x} said h y more g = let e : y ≡ x = same_numbers (one_said g.says said).0 in g.sensible (rw e h)
@@ -165,12 +149,15 @@ one_verdict (is_good {x = x} p) (is_bad none) = absurd (none x p)
 one_verdict (is_bad none) (is_good {x = x} p) = absurd (none x p)
 one_verdict (is_bad none) (is_bad also) = refl
 
+-- numbers are all that there is, or bytes stand behind them; and their turn is absurd, or it isn't
+all_or_more : {l : List ℕ} {x : Entry} (rest : List ℕ) → Says fields l (numbers_of x) rest → (v : Verdict) × Judged l v
+all_or_more {x = x} [] y =
+    ⊎_elim (λ h. (bad, is_bad (λ z g. absurd_said y h z [] g)))
+    (λ h. (good x, is_good (record { says = y; sensible = h }))) (absurd_or_not x.turn)
+all_or_more (b ∷ rest) y = (bad, is_bad (λ x g. let e : ◌≡◌ {A = ℕ} 0 (length (b ∷ rest)) = ap length (one_said g.says y).1 in omega arith))
+
 pub some_verdict : (l : List ℕ) → Bytes l → (v : Verdict) × Judged l v
 some_verdict l bytes =
-    ⊎_elim
-    (λ (w : (vs : List Val) × Says fields l vs []).
-    let x = entry_of w.0 in
-    let said : Says fields l (numbers_of x) [] = says_entry w.1 in
-    ⊎_elim (λ h. (bad, is_bad (λ y g. absurd_said {x = x} said h y [] g))) (λ h. (good x, is_good (record { says = said; sensible = h }))) (absurd_or_not x.turn))
-    (λ (none : (vs : List Val) → Says fields l vs [] → ⊥). (bad, is_bad (λ x g. none (numbers_of x) g.says)))
-    (all_or_not fields l bytes)
+    ⊎_elim (λ (x : (vs : List Val) × (rest : List ℕ) × Says fields l vs rest). all_or_more x.1 (says_entry x.2))
+    (λ (none : (vs : List Val) (rest : List ℕ) → Says fields l vs rest → ⊥). (bad, is_bad (λ x g. none (numbers_of x) [] g.says)))
+    (says_or_not fields l bytes)

@@ -2,5 +2,4 @@ pub mod Standing
 pub mod Saying
 pub mod Promise
 pub mod Given
-pub mod Converting
 pub mod Inner

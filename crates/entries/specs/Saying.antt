@@ -1,8 +1,7 @@
--- Document 02, #102, #111 and #112: what an entry says. Nothing here knows where an entry stands. Below, l is the bytes behind its mark.
+-- Document 02, #102 and #111: what an entry says. Nothing here knows where an entry stands. Below, l is the bytes behind its mark.
 --
 --   Field              how a field's group is read: its number, or a refusal
---   read_language       how a language's is: by the 32-bit rule
---   fields             the fields of an entry, in their order: segment, sentence, language, turn
+--   fields             the fields of an entry, in their order: segment, sentence, turn
 --   Says fs l vs rest  the bytes l begin with one group for each of the fields fs, in order; each reads, vs are the numbers, and rest stands behind
 --   numbers_of x        the numbers of the entry x, in the order of its fields
 --   Absurd t           the turn t is above 400 or below -400
@@ -14,21 +13,17 @@
 use Rattle.std.specs.Prelude.{ℕ, ◌≡◌, List, [], ◌∷◌, ◌++◌, ◌⊎◌, ℤ, pos, neg_ℤ, ◌<ℤ◌}
 use Rattle.words.specs.Answer.{Answer, gives}
 use Rattle.groups.specs.Group.{Group}
-use Rattle.groups.specs.Width.{reading}
-use Rattle.uleb128.specs.Unsigned.{u32, form as unsignedForm}
+use Rattle.uleb128.specs.Unsigned.{form as unsignedForm}
 use Rattle.sleb128.specs.Signed.{form as signedForm}
-use Rattle.blocks.specs.Block.{Val, unsigned, signed, valued, read_by}
+use Rattle.blocks.specs.Block.{Val, unsigned, signed, read_by}
 use Rattle.blocks.specs.declared.Rule.TheVariants.{Unsigned, Signed}
 use Rattle.entries.specs.declared.Entry.{Entry}
 
 abbrev pub Field : Type 0
 Field = List ℕ → Answer Val
 
-abbrev pub read_language : Field
-read_language g = valued unsigned (reading u32 g)
-
 abbrev pub fields : List Field
-fields = read_by Unsigned ∷ read_by Unsigned ∷ read_language ∷ read_by Signed ∷ []
+fields = read_by Unsigned ∷ read_by Unsigned ∷ read_by Signed ∷ []
 
 pub data Says : List Field → List ℕ → List Val → List ℕ → Type 0 where
   nothing : {l : List ℕ} → Says [] l [] l
@@ -36,7 +31,7 @@ pub data Says : List Field → List ℕ → List Val → List ℕ → Type 0 whe
       → Group g → f g ≡ gives v → Says fs more vs rest → l ≡ g ++ more → Says (f ∷ fs) l (v ∷ vs) rest
 
 abbrev pub numbers_of : Entry → List Val
-numbers_of x = unsigned x.segment ∷ unsigned x.sentence ∷ unsigned x.language ∷ signed x.turn ∷ []
+numbers_of x = unsigned x.segment ∷ unsigned x.sentence ∷ signed x.turn ∷ []
 
 abbrev pub Absurd : ℤ → Type 0
 Absurd t = (pos 400 <ℤ t) ⊎ (t <ℤ neg_ℤ (pos 400))

@@ -1,12 +1,10 @@
 // Entries: each is opened by a mark, the group 80 00, and runs to the next mark or to the block's end. Where an entry stands (module
 // `marks`) and what it says (`saying`) are two things: each knows nothing of the other.
-mod converting;
 mod marks;
 mod reading;
 mod saying;
 mod writing;
 
-pub use converting::convert_entries;
 pub use reading::read_entry;
 use words::{Place, Refusal};
 pub use writing::write_entry;
@@ -16,7 +14,6 @@ pub use writing::write_entry;
 pub struct Entry {
     pub segment: u64,
     pub sentence: u64,
-    pub language: u32,
     pub turn: i64,
 }
 

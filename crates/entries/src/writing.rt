@@ -1,33 +1,31 @@
 // Writing an entry: the room is known before the first byte is stored.
 ghost use Rattle.std.specs.Prelude.{◌+◌, ◌≤◌, length};
 ghost use Rattle.words.specs.Inner.{Puts};
+ghost use Rattle.words.specs.Lays.{Takes};
 ghost use Rattle.uleb128.specs.Unsigned.{form as unsignedForm};
 ghost use Rattle.blocks.specs.Promise.{means_value};
 ghost use Rattle.entries.specs.Saying.{form_of};
 ghost use Rattle.entries.specs.Standing.{mark};
 ghost use Rattle.entries.specs.Promise.{entry_form, WritesEntry};
-ghost use Rattle.entries.specs.Inner.{EntryTakes};
 
 use crate::Entry;
 use crate::saying::is_absurd;
 use bits::take_low_7_bits;
 use groups::{Value, store};
 use sleb128::length_i64;
-use uleb128::{ONE_BYTE, length_u32, length_u64};
+use uleb128::{ONE_BYTE, length_u64};
 use words::{Count, Place, Refusal, Written, has_room};
 
 // How many bytes the entry takes, its mark among them.
-pub(crate) fn entry_length(entry: Entry) -> Count
-    ensures { EntryTakes entry result }
+fn entry_length(entry: Entry) -> Count
+    ensures { Takes (entry_form entry) result }
 {
     let segment = length_u64(entry.segment);
     let sentence = length_u64(entry.sentence);
-    let language = length_u32(entry.language);
     let turn = length_i64(entry.turn);
     let first = 2 + segment.0;
     let second = first + sentence.0;
-    let third = second + language.0;
-    let all = third + turn.0;
+    let all = second + turn.0;
     Count(all)
 }
 
@@ -68,15 +66,14 @@ fn put_u64(v: u64, buffer: &mut [u8], at: usize) -> usize
     put(Value::Unsigned(v), buffer, at)
 }
 
-pub(crate) fn put_entry(entry: Entry, buffer: &mut [u8], at: usize) -> usize
+fn put_entry(entry: Entry, buffer: &mut [u8], at: usize) -> usize
     requires { at + length (entry_form entry) ≤ length buffer.old }
     ensures { Puts (entry_form entry) buffer.old at result buffer.new }
 {
     let first = put_mark(buffer, at);
     let second = put_u64(entry.segment, buffer, first);
     let third = put_u64(entry.sentence, buffer, second);
-    let fourth = put_u64(entry.language as u64, buffer, third);
-    put(Value::Signed(entry.turn), buffer, fourth)
+    put(Value::Signed(entry.turn), buffer, third)
 }
 
 // Lays the entry down at the place, its mark first, and answers its count of bytes; else 10 for an absurd turn, then 5, and no byte is changed.

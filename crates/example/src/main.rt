@@ -185,16 +185,7 @@ fn read_entries(block: &[u8]) {
 fn say_entry(entry: Entry) {
     say(b"segment ", entry.segment);
     say(b"sentence ", entry.sentence);
-    say(b"language ", entry.language as u64);
     say_meaning(entry.turn, turns::RIGHT);
-}
-
-// Writes the old entries of a block anew, each with the language.
-fn convert(old: &[u8], language: u32, buffer: &mut [u8]) {
-    match entries::convert_entries(old, language, buffer) {
-        Written::Bytes(count) => say_count(count),
-        Written::Refused(refusal) => say_refused(refusal),
-    }
 }
 
 fn line(text: &[u8]) {
@@ -314,24 +305,14 @@ fn show_phrases() {
 
 // An entry is written behind two others, the second of which has lost a number.
 fn show_entries() {
-    let mut block = *b"\x80\x00\x07\x01\x04\x02\x80\x00\x07\x02\x04\x00\x00\x00\x00\x00\x00";
+    let mut block = *b"\x80\x00\x07\x01\x02\x80\x00\x07\x02\x00\x00\x00\x00\x00";
     let entry = Entry {
         segment: 7,
         sentence: 3,
-        language: 4,
         turn: -1,
     };
-    write_entry(entry, &mut block, Place(11));
+    write_entry(entry, &mut block, Place(9));
     read_entries(&block);
-}
-
-// Two old entries, which have no language, and before them a byte that belongs to none; then the second without its turn.
-fn show_converting() {
-    let old = *b"\x05\x80\x00\x07\x01\x02\x80\x00\x07\x03\x7f";
-    let mut new = [0u8; 12];
-    convert(&old, 4, &mut new);
-    read_entries(&new);
-    convert(&old[0..10], 4, &mut new);
 }
 
 fn main() {
@@ -341,5 +322,4 @@ fn main() {
     show_settings();
     show_phrases();
     show_entries();
-    show_converting();
 }

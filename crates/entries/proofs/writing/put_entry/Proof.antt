@@ -25,48 +25,35 @@ marked c = c.before.before.before.before
 
 second : (c : tie.After-put-u64)
     → Laying (entry_form (start (marked c)).args.entry) (start (marked c)).args.buffer.now (start (marked c)).args.at c.put-u64.new.1.0 c.put-u64.result
-    (forms_of (unsigned (start (marked c)).args.entry.sentence ∷ unsigned (start (marked c)).args.entry.language ∷ signed (start (marked c)).args.entry.turn ∷ []))
-second c = number_put (unsigned _) (unsigned _ ∷ unsigned _ ∷ signed _ ∷ []) (first (marked c)) c.put-u64.ensures
+    (forms_of (unsigned (start (marked c)).args.entry.sentence ∷ signed (start (marked c)).args.entry.turn ∷ []))
+second c = number_put (unsigned _) (unsigned _ ∷ signed _ ∷ []) (first (marked c)) c.put-u64.ensures
 
 abbrev one : tie.After-put-u642 → tie.After-put-u64
 one c = c.before.before.before.before
 
 third : (c : tie.After-put-u642)
     → Laying (entry_form (start (marked (one c))).args.entry) (start (marked (one c))).args.buffer.now (start (marked (one c))).args.at c.put-u642.new.1.0 c.put-u642.result
-    (forms_of (unsigned (start (marked (one c))).args.entry.language ∷ signed (start (marked (one c))).args.entry.turn ∷ []))
-third c = number_put (unsigned _) (unsigned _ ∷ signed _ ∷ []) (second (one c)) c.put-u642.ensures
+    (forms_of (signed (start (marked (one c))).args.entry.turn ∷ []))
+third c = number_put (unsigned _) (signed _ ∷ []) (second (one c)) c.put-u642.ensures
 
-abbrev two : tie.After-put-u643 → tie.After-put-u642
+abbrev two : tie.After-put → tie.After-put-u642
 two c = c.before.before.before.before.before
 
-fourth : (c : tie.After-put-u643)
-    → Laying (entry_form (start (marked (one (two c)))).args.entry) (start (marked (one (two c)))).args.buffer.now (start (marked (one (two c)))).args.at
-    c.put-u643.new.1.0 c.put-u643.result (forms_of (signed (start (marked (one (two c)))).args.entry.turn ∷ []))
-fourth c = number_put (unsigned _) (signed _ ∷ []) (third (two c)) c.put-u643.ensures
-
-abbrev three : tie.After-put → tie.After-put-u643
-three c = c.before.before.before.before.before
-
 last : (c : tie.After-put)
-    → Laying (entry_form (start (marked (one (two (three c))))).args.entry) (start (marked (one (two (three c))))).args.buffer.now
-    (start (marked (one (two (three c))))).args.at c.put.new.1.0 c.put.result (forms_of [])
-last c = number_put (signed _) [] (fourth (three c)) (rw (word_back _ c.before.before.struct_told.given.1.1.1.0.1) at c.put.ensures)
+    → Laying (entry_form (start (marked (one (two c)))).args.entry) (start (marked (one (two c)))).args.buffer.now (start (marked (one (two c)))).args.at c.put.new.1.0
+    c.put.result (forms_of [])
+last c = number_put (signed _) [] (third (two c)) (rw (word_back _ c.before.before.struct_told.given.1.1.0.1) at c.put.ensures)
 
 put-u64-requires : tie.Need-put-u64-requires
-put-u64-requires c κs = let m = c.before.before.before in number_fits (unsigned _) (unsigned _ ∷ unsigned _ ∷ signed _ ∷ []) (first m) (start m).requires
+put-u64-requires c κs = let m = c.before.before.before in number_fits (unsigned _) (unsigned _ ∷ signed _ ∷ []) (first m) (start m).requires
 
 put-u64-requires-2 : tie.Need-put-u64-requires-2
-put-u64-requires-2 c κs = let m = c.before.before.before in number_fits (unsigned _) (unsigned _ ∷ signed _ ∷ []) (second m) (start (marked m)).requires
-
-put-u64-requires-3 : tie.Need-put-u64-requires-3
-put-u64-requires-3 c κs =
-    let m = c.before.before.before.before in
-    number_fits (unsigned _) (signed _ ∷ []) (third m) (start (marked (one m))).requires
+put-u64-requires-2 c κs = let m = c.before.before.before in number_fits (unsigned _) (signed _ ∷ []) (second m) (start (marked m)).requires
 
 put-requires : tie.Need-put-requires
 put-requires c κs =
     let m = c.before.before.before.before in
-    rw (word_back _ c.before.struct_told.given.1.1.1.0.1) (number_fits (signed _) [] (fourth m) (start (marked (one (two m)))).requires)
+    rw (word_back _ c.before.struct_told.given.1.1.0.1) (number_fits (signed _) [] (third m) (start (marked (one m))).requires)
 
 returns : tie.Need-returns
 returns c = all_laid (last c.before.before) refl
@@ -74,5 +61,4 @@ returns c = all_laid (last c.before.before) refl
 pub put-entry-spec : {M : Type 1} → statement M
 put-entry-spec =
     tie.close
-    (tie.spec (λ c κs. search rules) put-u64-requires put-u64-requires-2 (λ c. search rules) put-u64-requires-3 put-requires
-    (λ c. search rules) returns)
+    (tie.spec (λ c κs. search rules) put-u64-requires put-u64-requires-2 put-requires (λ c. search rules) returns)

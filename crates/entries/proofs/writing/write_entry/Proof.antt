@@ -19,7 +19,7 @@ abbrev start : tie.After-has-room → tie.Start
 start c = c.before.before.before.before.before
 
 told : (c : tie.After-has-room) → Tells (Absurd (start c).args.entry.turn) c.before.before.is-absurd.result
-told c = rw (word_back _ c.before.before.before.struct_told.given.1.1.1.0.1) at c.before.before.is-absurd.ensures
+told c = rw (word_back _ c.before.before.before.struct_told.given.1.1.0.1) at c.before.before.is-absurd.ensures
 
 returns : tie.Need-returns
 returns c = absurd_turn (told_yes (told c.before) c.if1.true) refl refl
