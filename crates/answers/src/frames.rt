@@ -12,7 +12,7 @@ const HEADER: usize = 21;
 // The most bytes that a frame has behind those.
 pub(crate) const MOST_BYTES: usize = 300000;
 
-#[derive(Drop)]
+#[derive(Clone, Copy)]
 pub(crate) struct Frame {
     pub(crate) op: u8,
     pub(crate) a: u64,
@@ -22,7 +22,7 @@ pub(crate) struct Frame {
 
 // What comes next: the end of the input; a frame that is cut short, or whose n is too large; or a whole frame, whose n bytes
 // stand at the front of the buffer that it was read into.
-#[derive(Drop)]
+#[derive(Clone, Copy)]
 pub(crate) enum Coming {
     End,
     Cut,

@@ -9,7 +9,7 @@ use words::{Count, Place, Refusal};
 const ROOM: usize = 128;
 
 // The first bytes of the text: as many as are filled.
-#[derive(Drop)]
+#[derive(Clone, Copy)]
 pub(crate) struct Line {
     text: [u8; ROOM],
     filled: Count,

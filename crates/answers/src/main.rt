@@ -1,4 +1,6 @@
 // Reads frames from standard input until it ends, and writes a line for each: what the desk answers to it.
+#![tactic(auto)]
+
 mod floats;
 mod frames;
 mod hex;

@@ -4,7 +4,7 @@ ghost use Rattle.std.proofs.Common.{to_z};
 ghost use Rattle.std.specs.Int.{w64};
 
 // A number of 32 bits, or none.
-#[derive(Drop)]
+#[derive(Clone, Copy)]
 pub(crate) enum Narrow {
     Number(u32),
     TooLarge,

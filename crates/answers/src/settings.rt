@@ -6,7 +6,7 @@ use slips::{Range, Setting};
 use words::Place;
 
 // The setting that an op asks to write, and the place behind its bits; or there is no such kind, or too few bytes.
-#[derive(Drop)]
+#[derive(Clone, Copy)]
 pub(crate) enum Asked {
     Setting(Setting, Place),
     Unknown,

@@ -9,7 +9,7 @@ use entries::Entry;
 use words::{Count, Place, Written};
 
 // What comes of such an op: the writer's answer, and the place from which on it was lent the bytes; or the op is unknown.
-#[derive(Drop)]
+#[derive(Clone, Copy)]
 enum Wrote {
     Answer(Written, Place),
     Unknown,

@@ -1,4 +1,6 @@
 // A byte's seven bits of value and its high bit: the source's macros of the same names, as functions.
+#![tactic(auto)]
+
 ghost use Rattle.bits.specs.Promise.{TakesLow7Bits, IsHigh8BitSet, SetsHigh8Bit};
 
 // The low seven bits of a byte, or of any number.

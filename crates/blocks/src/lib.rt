@@ -1,4 +1,6 @@
 // Blocks: a run of groups and a tail. A cursor steps through it, a group at a time; set-down finds where to begin.
+#![tactic(auto)]
+
 ghost use Rattle.std.specs.Prelude.{◌≡◌, ◌+◌, ◌-◌, ◌^◌, ◌<◌, ◌≤◌, [], ◌∷◌, length, drop};
 ghost use Rattle.words.specs.Answer.{gives, because_at};
 ghost use Rattle.groups.specs.Group.{run};
@@ -16,21 +18,21 @@ use words::{Count, Place, Refusal};
 pub const BLOCK_LIMIT: usize = 65536;
 
 // The rule by which a group's bytes are read.
-#[derive(Drop)]
+#[derive(Clone, Copy)]
 pub enum Rule {
     Unsigned,
     Signed,
 }
 
 // A reader's place in a block.
-#[derive(Drop)]
+#[derive(Clone, Copy)]
 pub struct Cursor {
     pub place: Place,
 }
 
 // What a step says. Each but a refusal hands the cursor back: moved past one group by Number and Gap, as it was by Tail
 // and Finished. A gap has its reason and the place of the byte that decided it.
-#[derive(Drop)]
+#[derive(Clone, Copy)]
 pub enum Step {
     Number(Value, Count, Cursor),
     Gap(Refusal, Place, Count, Cursor),
@@ -39,7 +41,7 @@ pub enum Step {
     Refused(Refusal),
 }
 
-#[derive(Drop)]
+#[derive(Clone, Copy)]
 pub enum SetDown {
     At(Cursor),
     Refused(Refusal),

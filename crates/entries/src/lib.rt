@@ -1,5 +1,7 @@
 // Entries: each is opened by a mark, the group 80 00, and runs to the next mark or to the block's end. Where an entry stands (module
 // `marks`) and what it says (`saying`) are two things: each knows nothing of the other.
+#![tactic(auto)]
+
 mod marks;
 mod reading;
 mod saying;
@@ -10,7 +12,7 @@ use words::{Place, Refusal};
 pub use writing::write_entry;
 
 // What a good entry says.
-#[derive(Drop)]
+#[derive(Clone, Copy)]
 pub struct Entry {
     pub segment: u64,
     pub sentence: u64,
@@ -18,7 +20,7 @@ pub struct Entry {
 }
 
 // What reading an entry answers: a good one, or 10 for a bad one, each with the place where it ends; or 7, 4, or 8 if there is none.
-#[derive(Drop)]
+#[derive(Clone, Copy)]
 pub enum ReadEntry {
     Good(Entry, Place),
     Bad(Refusal, Place),

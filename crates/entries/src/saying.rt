@@ -8,7 +8,7 @@ use uleb128::{ReadU64, read_u64};
 use words::Place;
 
 // What bytes begin with: the numbers of an entry, in so many bytes; or one of them is missing, doesn't read or is an absurd turn.
-#[derive(Drop)]
+#[derive(Clone, Copy)]
 pub(crate) enum Said {
     Numbers(Entry, usize),
     Fault,

@@ -1,6 +1,8 @@
 // How the number code is used from a crate of one's own: writing, reading, what a turn means, stepping, set-down, strict
 // reading, the settings of tools, phrases, and entries. Every answer is taken apart by a `match` and becomes a line of standard output.
 // README.md shows parts of this file.
+#![tactic(auto)]
+
 use blocks::{Cursor, Rule, SetDown, Step};
 use entries::{Entry, ReadEntry};
 use groups::Value;

@@ -1,5 +1,7 @@
 // A group of seven-bit bytes, whatever the width of the number: bytes of 128 or more and then one below. One loop walks it and one
 // lays it down, and readers and writers of every width stand on these two.
+#![tactic(auto)]
+
 mod reading;
 mod writing;
 
@@ -8,14 +10,14 @@ use words::Count;
 pub use writing::{spelled_length, store};
 
 // A number and its kind, which decide the bytes that spell it.
-#[derive(Drop)]
+#[derive(Clone, Copy)]
 pub enum Value {
     Unsigned(u64),
     Signed(i64),
 }
 
 // How the bytes from a start go.
-#[derive(Drop)]
+#[derive(Clone, Copy)]
 pub enum Walked {
     // The start is past the end of the bytes.
     Past,

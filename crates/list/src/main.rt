@@ -2,6 +2,8 @@
 //
 // No contract can say what is read or written. So every decision is a function that promises its answer, and the functions that
 // call the system only pass on what it answers: tools/check_code lets no test and no number stand in them.
+#![tactic(auto)]
+
 ghost use Rattle.std.specs.Prelude.{◌-◌, ◌≤◌, ◌<◌, ◌≡◌, length};
 ghost use Rattle.libc.specs.Io.{Moved};
 ghost use Rattle.texts.specs.Texts.{LaysText};
@@ -20,14 +22,14 @@ const INPUT_ROOM: usize = BLOCK_LIMIT + 1;
 const NOTE_ROOM: usize = 128;
 
 // The bytes at the front of the buffer are the input, or all that was asked for; or it can't be read.
-#[derive(Drop)]
+#[derive(Clone, Copy)]
 enum Input {
     Bytes(Count),
     Failed,
 }
 
 // What follows on a read: another one, behind so many bytes; or the input is known.
-#[derive(Drop)]
+#[derive(Clone, Copy)]
 enum Taken {
     More(Count),
     Ended(Input),

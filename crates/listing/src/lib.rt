@@ -2,6 +2,8 @@
 //
 // A block's listing is a header and a line for each group and for the tail: `place what value`. The 3 bytes 80 01 05 have the
 // lines `0 number 128` and `2 number 5`. `lay_listing(block, text)` puts it to the front of a buffer that holds every listing.
+#![tactic(auto)]
+
 mod rows;
 
 use blocks::BLOCK_LIMIT;

@@ -14,7 +14,7 @@ use groups::Value;
 use words::{Count, Place, Refusal};
 
 // What stands at a place: a group that is a number, one with a fault, or the tail.
-#[derive(Drop)]
+#[derive(Clone, Copy)]
 enum What {
     Number,
     NotShortest,
@@ -23,7 +23,7 @@ enum What {
 }
 
 // A line: what stands there, its value, and how many bytes of the block it is of. Or the block is finished.
-#[derive(Drop)]
+#[derive(Clone, Copy)]
 enum Row {
     Line(What, u64, Count),
     Finished,

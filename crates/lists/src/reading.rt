@@ -12,14 +12,14 @@ use groups::Value;
 use words::{Place, Refusal};
 
 // A group's number with the place behind it, or the fault there with the place of the byte that decided it.
-#[derive(Drop)]
+#[derive(Clone, Copy)]
 enum Passed {
     Number(u64, usize),
     Fault(Refusal, Place),
 }
 
 // How many numbers a block has, or its first fault.
-#[derive(Drop)]
+#[derive(Clone, Copy)]
 enum Scanned {
     Count(usize),
     Fault(Refusal, Place),

@@ -1,5 +1,7 @@
 // Setting slips: one byte of kind, then a body whose length the kind fixes. Kind 0 is nothing, 1 a torque in newton metres, 2 an angle in
 // degrees, 3 a lowest and a highest torque; each is the four bytes of an f32's bits, lowest first.
+#![tactic(auto)]
+
 mod good;
 mod reading;
 mod writing;
@@ -11,14 +13,14 @@ use words::{Count, Refusal};
 pub use writing::write_setting;
 
 // A lowest and a highest torque.
-#[derive(Drop)]
+#[derive(Clone, Copy)]
 pub struct Range {
     pub lowest: f32,
     pub highest: f32,
 }
 
 // What a workshop sets.
-#[derive(Drop)]
+#[derive(Clone, Copy)]
 pub enum Setting {
     Nothing,
     Torque(f32),
@@ -27,7 +29,7 @@ pub enum Setting {
 }
 
 // What the reader answers: the setting and its slip's count of bytes, or why there is none.
-#[derive(Drop)]
+#[derive(Clone, Copy)]
 pub enum ReadSetting {
     Setting(Setting, Count),
     Refused(Refusal),

@@ -1,6 +1,8 @@
 // Texts, laid down in a lent buffer from its front on, one behind the other: words, and numbers in decimal. Each is told how
 // many bytes of the buffer are filled already, and answers how many then are; bytes that the buffer has no room for are left
 // out.
+#![tactic(auto)]
+
 ghost use Rattle.texts.specs.Texts.{LaysText, LaysDecimal};
 
 use words::Count;

@@ -1,5 +1,7 @@
 // What a number of quarter turns means under a thread code: on a right-hand thread above zero tightens and below zero loosens,
 // on a left-hand thread the two change places, and zero holds on both.
+#![tactic(auto)]
+
 ghost use Rattle.std.specs.Prelude.{◌≡◌};
 ghost use Rattle.turns.specs.Turns.{by_thread, means_meaning, Means};
 
@@ -10,7 +12,7 @@ pub const RIGHT: u8 = 0;
 
 pub const LEFT: u8 = 1;
 
-#[derive(Drop)]
+#[derive(Clone, Copy)]
 pub enum Turn {
     Tighten,
     Loosen,
@@ -18,7 +20,7 @@ pub enum Turn {
 }
 
 // What a turn means under a thread code, or why that is refused.
-#[derive(Drop)]
+#[derive(Clone, Copy)]
 pub enum Meaning {
     Turn(Turn),
     Refused(Refusal),

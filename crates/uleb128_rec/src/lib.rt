@@ -1,4 +1,6 @@
 // Unsigned LEB128 of 64 bits by recursion: the same answers as `uleb128` gives by its loops.
+#![tactic(auto)]
+
 mod reading;
 mod writing;
 

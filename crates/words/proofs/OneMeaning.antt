@@ -67,7 +67,7 @@ back give refuse (refused k) = refuse (refusal_of (number_in k))
 pub same_written : (r r' : Written) → means_written r ≡ means_written r' → r ≡ r'
 same_written =
     same_by means_written (back (λ (n : ℕ). W.Bytes (record { 0 = n })) W.Refused)
-    (λ r. elim r [ W.Bytes n ↦ refl | W.Refused a ↦ ap W.Refused (refusal_back a) ])
+    (λ r. elim r as (λ k. back (λ (n : ℕ). W.Bytes (record { 0 = n })) W.Refused (means_written k) ≡ k) [ W.Bytes n ↦ refl | W.Refused a ↦ ap W.Refused (refusal_back a) ])
 
 pub same_lays : {bytes s : List ℕ} {at : ℕ} {r r' : Written} {out out' : List ℕ} → Lays bytes s at r out → Lays bytes s at r' out'
     → (r ≡ r') × (out ≡ out')

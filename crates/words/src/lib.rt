@@ -1,17 +1,19 @@
 // The kinds of number and the refusals that every crate shares: document 01, "The numbers on the page"
 // and "When the number desk refuses".
+#![tactic(auto)]
+
 ghost use Rattle.words.specs.Promise.{Numbered, HasRoom};
 
 // A place in a buffer or in a run of bytes.
-#[derive(Drop)]
+#[derive(Clone, Copy)]
 pub struct Place(pub usize);
 
 // A count of bytes. No place can be handed over for it.
-#[derive(Drop)]
+#[derive(Clone, Copy)]
 pub struct Count(pub usize);
 
 // Why the desk refuses, as the numbers rise: document 01's table, then what document 02 adds.
-#[derive(Drop)]
+#[derive(Clone, Copy)]
 pub enum Refusal {
     End,
     Overflow,
@@ -28,7 +30,7 @@ pub enum Refusal {
 }
 
 // What a writer answers: the count of bytes that it laid down, or why it laid none.
-#[derive(Drop)]
+#[derive(Clone, Copy)]
 pub enum Written {
     Bytes(Count),
     Refused(Refusal),

@@ -10,7 +10,7 @@ use uleb128::{ReadU64, read_u64};
 use words::Place;
 
 // How far a stream has come: its place in the block, and how many numbers stand in the slice before its next.
-#[derive(Drop)]
+#[derive(Clone, Copy)]
 struct Reached {
     at: usize,
     n: usize,

@@ -10,7 +10,7 @@ ghost use Rattle.lists.specs.InnerWide.{Accepts, Found, Longest, Widens, Stores}
 use bits::{is_high_8_bit_set, take_low_7_bits};
 
 // A number, and how many bytes it takes.
-#[derive(Drop)]
+#[derive(Clone, Copy)]
 pub(crate) struct Taken {
     pub v: u64,
     pub n: usize,
