@@ -44,4 +44,4 @@ same_step = same_by means_step back is
 pub same_set_down : (r r' : SetDown) → means_set_down r ≡ means_set_down r' → r ≡ r'
 same_set_down =
     same_by means_set_down (back (λ (p : ℕ). D.At (record { place = record { 0 = p } })) D.Refused)
-    (λ r. elim r [ D.At c ↦ refl | D.Refused a ↦ ap D.Refused (refusal_back a) ])
+    (λ r. elim r as (λ k. (back (λ (p : ℕ). D.At (record { place = record { 0 = p } })) D.Refused) (means_set_down k) ≡ k) [ D.At c ↦ refl | D.Refused a ↦ ap D.Refused (refusal_back a) ])

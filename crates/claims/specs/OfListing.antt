@@ -43,7 +43,7 @@ FrontEnough = (s : List ℕ) (n : ℕ) → block_limit < n → text (take n s) �
 
 pub record Document : Type 0 where
   pub document : text (0x00 ∷ 0x80 ∷ 0x01 ∷ 0x80 ∷ 0x00 ∷ replicate 9 0xff ++ 0x02 ∷ 0x05 ∷ 0x83 ∷ [])
-      ≡ ascii "place what value\n0 number 0\n1 number 128\n3 not_shortest 2\n5 overflow 10\n15 number 5\n16 tail 1\n"
+      ≡ ascii "place what value\n0 number 0\n1 number 128\n3 not-shortest 2\n5 overflow 10\n15 number 5\n16 tail 1\n"
   pub mended : text (0x00 ∷ 0x80 ∷ 0x01 ∷ 0x07 ∷ replicate 9 0xff ++ 0x02 ∷ 0x05 ∷ 0x83 ∷ [])
       ≡ ascii "place what value\n0 number 0\n1 number 128\n3 number 7\n4 overflow 10\n14 number 5\n15 tail 1\n"
   pub empty : text [] ≡ ascii "place what value\n"

@@ -94,7 +94,7 @@ back_to (refused (by_at k q)) = Bad (refusal_of k) (record { 0 = q })
 pub same_entry : (r r' : ReadEntry) → means_read_entry r ≡ means_read_entry r' → r ≡ r'
 same_entry =
     same_by means_read_entry back_to
-    (λ r. elim r [ Good x q ↦ refl | Bad why q ↦ ap (λ w. Bad w q) (refusal_back why) | Refused why ↦ ap Refused (refusal_back why) ])
+    (λ r. elim r as (λ k. back_to (means_read_entry k) ≡ k) [ Good x q ↦ refl | Bad why q ↦ ap (λ w. Bad w q) (refusal_back why) | Refused why ↦ ap Refused (refusal_back why) ])
 
 abbrev pub answer_of : Verdict → ℕ → ReadEntry
 answer_of (good x) q = Good x (record { 0 = q })

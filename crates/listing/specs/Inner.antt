@@ -18,7 +18,7 @@ use Rattle.listing.specs.declared.rows.Row.TheVariants as R
 
 abbrev pub word_of : What → List ℕ
 word_of W.Number = ascii "number"
-word_of W.NotShortest = ascii "not_shortest"
+word_of W.NotShortest = ascii "not-shortest"
 word_of W.Overflow = ascii "overflow"
 word_of W.Tail = ascii "tail"
 

@@ -19,7 +19,7 @@ row p what v = decimal p ++ ascii " " ++ what ++ ascii " " ++ decimal v ++ ascii
 
 -- a group's fault is 2 or 3
 abbrev pub fault : Why → List ℕ
-fault why = pick (eqb (number_in why) 3) (ascii "not_shortest") (ascii "overflow")
+fault why = pick (eqb (number_in why) 3) (ascii "not-shortest") (ascii "overflow")
 
 abbrev pub row_of : ℕ → Answer (ℕ × ℕ) → ℕ → List ℕ
 row_of p (gives v) n = row p (ascii "number") v.0

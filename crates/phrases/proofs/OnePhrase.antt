@@ -51,7 +51,7 @@ one_phrased {old = old} (fills h p x f) (fills k q y g) =
 pub same_phrase : (r r' : ReadPhrase) → means_read_phrase r ≡ means_read_phrase r' → r ≡ r'
 same_phrase =
     same_by means_read_phrase (back (λ (n : ℕ). Filled (record { 0 = n })) Refused)
-    (λ r. elim r [ Filled n ↦ refl | Refused why ↦ ap Refused (refusal_back why) ])
+    (λ r. elim r as (λ k. (back (λ (n : ℕ). Filled (record { 0 = n })) Refused) (means_read_phrase k) ≡ k) [ Filled n ↦ refl | Refused why ↦ ap Refused (refusal_back why) ])
 
 pub some_phrase : (s old : List ℕ) → (r : ReadPhrase) × (out : List ℕ) × ReadsPhrase s old r out
 some_phrase s old =

@@ -11,4 +11,4 @@ use Rattle.turns.specs.declared.Meaning.TheVariants as M
 pub same_meaning : (r r' : Meaning) → means_meaning r ≡ means_meaning r' → r ≡ r'
 same_meaning =
     same_by means_meaning (back M.Turn M.Refused)
-    (λ r. elim r [ M.Turn turn ↦ refl | M.Refused why ↦ ap M.Refused (refusal_back why) ])
+    (λ r. elim r as (λ k. (back M.Turn M.Refused) (means_meaning k) ≡ k) [ M.Turn turn ↦ refl | M.Refused why ↦ ap M.Refused (refusal_back why) ])
