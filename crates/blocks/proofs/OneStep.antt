@@ -3,7 +3,6 @@
 --   same_step, same_set_down   answers that mean the same are the same
 use Prim.Native.Nat.{ℕ}
 use mathlib.Core.Path.{◌≡◌, refl, ap}
-use native.Mathlib.Omega.{arith}
 use Rattle.words.specs.Answer.{number_in}
 use Rattle.words.proofs.OneNumber.{refusal_of, refusal_back}
 use Rattle.words.proofs.OneMeaning.{same_by, back, place_in}

@@ -1,0 +1,35 @@
+-- `blocks::Cursor::step` meets its promise: a law of `Rows` for each answer before a start, and from there what `long` or one byte says.
+use Rattle.std.proofs.Common.{refl, ap, not, sym, ◌∙◌, rules}
+use Rattle.bits.proofs.HighBit.{bit_clear}
+use Rattle.blocks.proofs.GroupReading.{reads_one}
+use Rattle.blocks.proofs.Rows.{step_too_long, step_past, step_finished, step_not_a_start, step_standing}
+use Rattle.blocks.proofs.Cursor.step.Goals as goal
+
+pub returns-then-block-gt-BLOCK_LIMIT : goal.returns-then-block-gt-BLOCK_LIMIT
+returns-then-block-gt-BLOCK_LIMIT c = step_too_long _ _ _ c.if-block-gt-BLOCK_LIMIT.true
+
+pub returns-then-block-at : goal.returns-then-block-at
+returns-then-block-at c = step_past _ _ _ c.if-block-gt-BLOCK_LIMIT.false c.if-block-at.true
+
+pub returns-then-block-at-2 : goal.returns-then-block-at-2
+returns-then-block-at-2 c = step_finished _ _ _ c.if-block-gt-BLOCK_LIMIT.false _ refl c.if-block-at.false c.if-block-at-2.true
+
+pub returns-then-not-starts : goal.returns-then-not-starts
+returns-then-not-starts c =
+    step_not_a_start _ _ _ (search rules) (search rules) (sym c.is_start-starts.ensures ∙ c.if-not-starts.true)
+
+-- past the test for a start
+pub returns-then-not-more : goal.returns-then-not-more
+returns-then-not-more c =
+    step_standing _ _ _ (search rules) (search rules) (sym c.is_start-starts.ensures ∙ c.if-not-starts.false) refl
+    (rw c.past.ensures
+    (reads_one _ _ _ (search rules) (bit_clear c.is_high_8_bit_set-more.ensures (ap not c.if-not-more.true)) c.alone.ensures))
+
+pub returns-in-Unsigned : goal.returns-in-Unsigned
+returns-in-Unsigned c =
+    step_standing _ _ _ (search rules) (search rules) (sym c.is_start-starts.ensures ∙ c.if-not-starts.false) c.in-Unsigned.is c.long.ensures
+
+pub returns-in-Signed : goal.returns-in-Signed
+returns-in-Signed c =
+    step_standing _ _ _ (search rules) (search rules) (sym c.is_start-starts.ensures ∙ c.if-not-starts.false) c.in-Signed.is
+    c.long-in-Signed.ensures
