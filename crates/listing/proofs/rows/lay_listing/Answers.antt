@@ -1,0 +1,10 @@
+-- `listing::lay_listing` meets its promise: a law of `Laid` for each return.
+use Rattle.std.proofs.Common.{arith}
+use Rattle.listing.proofs.Laid.{long_laid, rows_laid}
+use Rattle.listing.proofs.rows.lay_listing.Goals as goal
+
+pub returns-then-block-gt-BLOCK_LIMIT : goal.returns-then-block-gt-BLOCK_LIMIT
+returns-then-block-gt-BLOCK_LIMIT c = long_laid _ _ c.told-text (omega arith) c.word.ensures
+
+pub returns : goal.returns
+returns c = rows_laid _ _ c.told-text (omega arith) c.word-headed.ensures c.lay_rows.ensures
