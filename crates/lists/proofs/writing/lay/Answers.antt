@@ -1,0 +1,16 @@
+-- `lists::lay` keeps what it promises inside the crate: each turn and the end are laws of `LayLoop`.
+use Rattle.std.proofs.Common.{arith}
+use Rattle.lists.proofs.LayLoop.{one_of_list, all_of_list, room_next}
+use Rattle.lists.proofs.writing.lay.Goals as goal
+
+pub put-to-requires : goal.put-to-requires
+put-to-requires c = room_next _ _ c.loop-i.invariant.laying c.requires c.loop-i-test.true
+
+pub loop-i-preserved : goal.loop-i-preserved
+loop-i-preserved c = record {
+  within = omega arith;
+  laying = one_of_list _ _ c.loop-i.invariant.laying c.loop-i-test.true c.put-to.ensures;
+}
+
+pub returns : goal.returns
+returns c = all_of_list _ _ c.loop-i.invariant.laying c.requires c.loop-i.invariant.within c.loop-i-test.false
