@@ -6,12 +6,12 @@
 --   Rowing s p x       x is the line of what stands there: none, where no row is left; or the first row that is left, with how many bytes it is of
 --   rowing             so is the line of what a step says there, by the unsigned rule
 --   no_row, next_row   what that says where a line is `none`, and where it is one (`Behind`: what is behind it)
-use Prim.Native.Nat.{ℕ, ◌+◌, ◌-◌, ◌≤◌, ◌<◌}
+use Prim.Native.Nat.{ℕ, ◌+◌, ◌≤◌, ◌<◌}
 use mathlib.Core.Path.{◌≡◌, refl, sym, ◌∙◌}
 use mathlib.Core.Logic.{◌⊎◌, inl, inr, ⊎_elim}
 use mathlib.Core.List.{List, [], ◌∷◌, ◌++◌, append-nil}
 use native.Mathlib.Omega.{arith}
-use lib.ListN.{length, drop, length-drop, drop_of_length-le}
+use lib.ListN.{length, drop, length-drop}
 use Rattle.words.specs.Answer.{Answer, gives, refused, moved}
 use Rattle.words.proofs.Moved.{number_kept}
 use Rattle.texts.specs.Texts.{ascii}
