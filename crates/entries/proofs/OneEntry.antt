@@ -18,7 +18,6 @@ use native.Mathlib.Omega.{arith}
 use lib.ListN.{length, take, drop}
 use lib.Seq.{get_or-drop}
 use Rattle.words.specs.Answer.{Answer, gives, refused, because, by, by_at}
-use Rattle.words.specs.declared.Place.{Place}
 use Rattle.words.specs.declared.Refusal.{Refusal}
 use Rattle.words.specs.declared.Refusal.TheVariants as Why
 use Rattle.words.proofs.Cases.{by_order}
