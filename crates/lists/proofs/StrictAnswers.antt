@@ -5,15 +5,17 @@
 --   slice_full       one of more numbers than the slice has room for, by 5
 --   slice_fits       where there is room for as many numbers as the block has, they stand in it one behind another, so many;
 --   slice_filled     stored from the front of the slice on, they are what strict reading answers and leaves
+--   strict_by_count, filled_by_count   what it answers and leaves, by how many numbers the block has, or its first fault
 use Prim.Native.Nat.{ℕ, ◌≤◌, ◌<◌}
 use mathlib.Core.Path.{◌≡◌, refl, ap, sym, ◌∙◌}
-use mathlib.Core.List.{List}
+use mathlib.Core.List.{List, [], ◌++◌}
 use native.Mathlib.Nat.{zero-add}
 use native.Mathlib.Omega.{arith}
 use borrow.Author.Tests.{lt-ltb, le-ltb, le-leb, lt-leb}
-use lib.ListN.{length}
+use lib.ListN.{length, drop}
+use lib.Dec.{leb, ltb}
 use lib.Seq.{sets, sets-eq}
-use Rattle.words.specs.Answer.{Answer, gives, refused, because_at, Why}
+use Rattle.words.specs.Answer.{pick, Answer, gives, refused, by, because_at, Why}
 use Rattle.words.specs.declared.Place.{Place}
 use Rattle.words.specs.declared.Refusal.{Refusal}
 use Rattle.words.specs.declared.Refusal.TheVariants.{TooLong, NoRoom}
@@ -47,6 +49,37 @@ filling_room ns old h = sets-eq ns old 0 (omega arith) ∙ rw (zero-add (length 
 
 pub slice_fits : (s : List ℕ) {n room : ℕ} → Bytes s → gives n ≡ many (numbers 0 s) → n ≤ room → AllFit s n room
 slice_fits s bytes e h = let g = numbers_many (numbers 0 s) e in record { vs = g.0; left = numbers_left s bytes g.1; many = g.2; enough = h }
+
+-- strict reading, from how many numbers the block has
+abbrev pub told : Answer ℕ → ℕ → Answer ℕ
+told (refused k) room = refused k
+told (gives n) room = pick (leb n room) (gives n) (refused (by 5))
+
+abbrev pub listed : Answer (List ℕ) → List ℕ
+listed (refused k) = []
+listed (gives ns) = ns
+
+abbrev pub stored_or_kept : Answer ℕ → List ℕ → List ℕ → List ℕ
+stored_or_kept (refused k) ns old = old
+stored_or_kept (gives n) ns old = pick (leb n (length old)) (ns ++ drop n old) old
+
+counted_told : (a : Answer (List ℕ)) (room : ℕ) → counted a room ≡ told (many a) room
+counted_told (refused k) room = refl
+counted_told (gives ns) room = refl
+
+filling_kept : (a : Answer (List ℕ)) (old : List ℕ) → filling a old ≡ stored_or_kept (many a) (listed a) old
+filling_kept (refused k) old = refl
+filling_kept (gives ns) old = refl
+
+pub strict_by_count : (s : List ℕ) (room : ℕ)
+    → strict s room ≡ pick (ltb block_limit (length s)) (refused (by 7)) (told (many (numbers 0 s)) room)
+unfolding strict
+strict_by_count s room = rw (counted_told (numbers 0 s) room)
+
+pub filled_by_count : (s old : List ℕ)
+    → filled s old ≡ pick (ltb block_limit (length s)) old (stored_or_kept (many (numbers 0 s)) (listed (numbers 0 s)) old)
+unfolding filled
+filled_by_count s old = rw (filling_kept (numbers 0 s) old)
 
 -- strict reading, from what the numbers of the block come to
 strict_answer : (s old : List ℕ) → length s ≤ block_limit → {r : ReadList} {out : List ℕ} → means_read_list r ≡ counted (numbers 0 s) (length old)

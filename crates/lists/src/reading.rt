@@ -84,6 +84,7 @@ fn measure(block: &[u8]) -> Scanned
 
 // Fills the front of the slice with the block's numbers, if every group is one and there is no tail: else 7, the first fault by
 // place (2 or 3 in a group, 1 for a tail, decided by the block's end), or 5; then the slice is as it was.
+#[tactic(auto, using(crate::proofs::StrictAnswers::strict_by_count, crate::proofs::StrictAnswers::filled_by_count))]
 pub fn read_strict(block: &[u8], numbers: &mut [u64]) -> ReadList
     ensures { ReadsStrict block.now numbers.old result numbers.new }
 {

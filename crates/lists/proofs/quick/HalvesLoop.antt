@@ -6,6 +6,7 @@
 --   Turn k ..        both streams have k numbers left or more, and so k bytes
 --   turn_begins      where the loop goes on, 17
 --   turn_numbers     when a number of each was read and stored, 16
+--   turn_stored      both in one, from where the loop goes on
 --   ready_first, ready_second   each stream is then ready for a step, the second also when the first has made its own
 --   turn_ends        after both steps the loop holds what it held, with no fewer numbers stored
 use Prim.Native.Nat.{ℕ, ◌+◌, ◌-◌, ◌≤◌, ◌<◌}
@@ -100,6 +101,11 @@ module _ {s : List ℕ} {mid half count : ℕ} {old out : List ℕ} {at n at2 n2
       let f = first_stepped t.filling (stream_one t.filling.first out (omega (arith, t.many)) e) in
       let g = second_stepped f (stream_one f.second (set out n v) (omega (arith, t.many2)) e2) in
       left_inside 16 g (omega (arith, t.many)) (omega (arith, t.many2))
+
+  pub turn_stored : {most most2 v m v2 m2 : ℕ} → Filling s mid half count old out at n at2 n2 → most ≡ half - 16 → most2 ≡ count - 16
+      → (n < most) × (n2 < most2) → reading u64 (drop at s) ≡ gives (v, m) → reading u64 (drop at2 s) ≡ gives (v2, m2)
+      → Turn 16 s mid half count old (set (set out n v) n2 v2) (at + m) (n + 1) (at2 + m2) (n2 + 1)
+  turn_stored f e e2 h r r2 = turn_numbers (turn_begins f e e2 h) r r2
 
   module _ (t : Turn 16 s mid half count old out at n at2 n2) where
     pub ready_first : Ready s at n (length out)
