@@ -1,10 +1,10 @@
 -- What the functions of this program promise.
 --
---   Moved m k                what a read that was lent m bytes may answer, as a number: -1, or how many bytes it moved, at most m
+--   Moved m k                  what a read that was lent m bytes may answer, as a number: -1, or how many bytes it moved, at most m
 --   means_input, means_taken   what an input, and what follows on a read, are in the definitions' words
---   InputWithin i            the input's bytes are no more than were asked for
---   Follows n k r            r is what follows on a read
---   LaysTextOf, LaysNoteOf   the text and the note of the input i stand at the buffer's front: what is written, and what is said
+--   InputWithin i              the input's bytes are no more than were asked for
+--   Follows n k r              r is what follows on a read
+--   LaysTextOf, LaysNoteOf     the text and the note of the input i stand at the buffer's front: what is written, and what is said
 use Rattle.std.specs.Prelude.{ℕ, ◌≤◌, Bool, List, ◌≡◌, ℤ, pos, negsuc}
 use Rattle.listing.specs.Program.{Known, bytes, failed, Next, more, ended, input_room, following, text_of, note_of}
 use Rattle.listing.specs.Promise.{Fronts}
