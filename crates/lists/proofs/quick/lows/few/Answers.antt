@@ -11,6 +11,6 @@ loop-i-preserved c =
     let g = c.loop-i.invariant in
     let told = c.is_high_8_bit_set-high.ensures in
     elim c.if-not-high.branch [
-      then-not-high w ↦ low_counted g (search rules) (search rules) (bit_clear told (ap not w.if-not-high.true)) w.n-is
-    | else-not-high w ↦ high_counted g (search rules) (search rules) (bit_set told (ap not w.if-not-high.false)) w.n-is
+      | then-not-high w ↦ low_counted g (search rules) (search rules) (bit_clear told (ap not w.if-not-high.true)) w.n-is
+      | else-not-high w ↦ high_counted g (search rules) (search rules) (bit_set told (ap not w.if-not-high.false)) w.n-is
     ]
