@@ -30,7 +30,7 @@ def code_of(text):
 
 # Where the bracket that opens at the place closes.
 def closing(text, at):
-    pairs = {"(": ")", "{": "}", "[": "]", "⌜": "⌝"}
+    pairs = {"(": ")", "{": "}", "[": "]"}
     wanted = []
     for i in range(at, len(text)):
         if text[i] in pairs:
@@ -71,22 +71,21 @@ class Function:
             self.parameters[word] = kind.strip() or holder[:-2]
         self.clauses = []
         i = closes + 1
-        while True:
-            found = re.compile(r"\s*(->\s*[^{]*?)?\s*(?:\b(requires|ensures)\s*)?(?=[{;])").match(text, i)
+        answer = re.compile(r"\s*->\s*((?:(?!\b(?:requires|ensures|ghost|where)\b)[^{;])*)").match(text, i)
+        self.answer = answer[1].strip() if answer else ""
+        i = answer.end() if answer else i
+        while True:  # a clause may have a name, and a star
+            found = re.compile(r"\s*(?:\b(requires|ensures)\s*(\*\s*)?(?:\w+\s*)?)?(?=[{;])").match(text, i)
             if not found:
                 raise ValueError(f"{path}: {name} can't be read")
-            if found[1]:
-                self.answer = found[1][2:].strip()
-            elif i == closes + 1:
-                self.answer = ""
             if text[found.end()] == ";":
                 self.end, self.body = found.end(), ""
                 break
             close = closing(text, found.end())
-            if not found[2]:
+            if not found[1]:
                 self.end, self.body = close, text[found.end() : close + 1]
                 break
-            self.clauses.append((found[2], text[found.end() + 1 : close].strip()))
+            self.clauses.append((found[1], text[found.end() + 1 : close].strip()))
             i = close + 1
         self.start = start
         self.calls = set(re.findall(r"(\w+)\(", self.body))
@@ -99,7 +98,7 @@ class Function:
 @functools.cache
 def ghosts(path):
     found = {}
-    for crate, file, inner in re.findall(r"^ghost use Rattle·(\w+)(?:·specs)?\.specs\.(\w+)\.\{([^}]*)\};", read(path), re.M):
+    for crate, file, inner in re.findall(r"^ghost use Rattle\.(\w+)\.specs\.(\w+)\.\{([^}]*)\};", read(path), re.M):
         for word in inner.split(","):
             name, _, local = word.strip().partition(" as ")
             found[local or name] = (crate, file, name)
@@ -164,7 +163,7 @@ def declarations(path):
 
 # The names that a text mentions: neither fields that are asked of something (` .name`) nor what stands in a module (`module.name`, but for its first part).
 def names_in(text):
-    return set(re.findall(r"(?<![.\w′·-])[^\s(){},;.λ→×≡∷⊎↔]+", text))
+    return set(re.findall(r"(?<![.\w'-])[^\s(){},;.λ→×≡∷⊎↔]+", text))
 
 
 # `use A.B.{c, d as e}`: from which file's declarations each name of a file of specs/ comes, as (crate, file, name).
@@ -173,7 +172,7 @@ def imports(path):
     found = {}
     crate = path.split("/")[1]
     for module, inner in re.findall(r"^use (\S+?)\.\{([^}]*)\}", read(path), re.M):
-        where = re.match(r"Rattle·(\w+)(?:·specs)?\.specs\.(\w+)$", module)
+        where = re.match(r"Rattle\.(\w+)\.specs\.(\w+)$", module)
         if where:
             for word in inner.split(","):
                 name, _, local = word.strip().partition(" as ")

@@ -4,7 +4,7 @@
 ghost use Rattle.std.specs.Prelude.{◌+◌, ◌≤◌, length};
 ghost use Rattle.answers.specs.Frames.{Within};
 
-use libc::STDIN_FILENO;
+use std::io::{Read, Stdin};
 
 // The bytes of a frame before its n bytes.
 const HEADER: usize = 21;
@@ -64,12 +64,34 @@ fn header(bytes: &[u8; HEADER]) -> Frame {
     }
 }
 
+// Reads once, and answers how many bytes it put at the start of the buffer: none where the input has ended or the read failed.
+fn read_some(mut from: Stdin, buffer: &mut [u8]) -> usize
+    ensures { result ≤ length buffer.new }
+{
+    from.read(buffer).unwrap_or(0)
+}
+
+// Reads until the buffer is full, the input ends or a read fails, and answers how many bytes it put at the start of the buffer.
+fn read_full(from: Stdin, buffer: &mut [u8]) -> usize
+    ensures { result ≤ length buffer.new }
+{
+    let mut done = 0;
+    while done < buffer.len() {
+        let more = read_some(from, &mut buffer[done..]);
+        if more == 0 {
+            break;
+        }
+        done += more;
+    }
+    done
+}
+
 // The next frame. Its n is too large for a buffer that it does not fit.
-pub(crate) fn next_frame(buffer: &mut [u8]) -> Coming
+pub(crate) fn next_frame(from: Stdin, buffer: &mut [u8]) -> Coming
     ensures { Within result (length buffer.new) }
 {
     let mut bytes = [0u8; HEADER];
-    let got = io::read_full(STDIN_FILENO, &mut bytes);
+    let got = read_full(from, &mut bytes);
     if got < 1 {
         return Coming::End;
     }
@@ -81,7 +103,7 @@ pub(crate) fn next_frame(buffer: &mut [u8]) -> Coming
     if buffer.len() < n {
         return Coming::Cut;
     }
-    let got = io::read_full(STDIN_FILENO, &mut buffer[0..n]);
+    let got = read_full(from, &mut buffer[0..n]);
     if got < n {
         return Coming::Cut;
     }

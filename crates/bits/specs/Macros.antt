@@ -1,8 +1,8 @@
 -- The source's macros on bytes, under their names, by remainder and sum where it has masks.
 --
---   take_low_7_bits_lem v    the low seven bits of a byte, or of any number
+--   take_low_7_bits_lem v     the low seven bits of a byte, or of any number
 --   is_high_8_bit_set_lem b   the byte is 128 or more
---   set_high_8_bit_lem b     the byte with its high bit set
+--   set_high_8_bit_lem b      the byte with its high bit set
 use Rattle.std.specs.Prelude.{ℕ, ◌+◌, ◌%◌, Bool, leb}
 
 abbrev pub take_low_7_bits_lem : ℕ → ℕ

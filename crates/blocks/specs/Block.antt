@@ -1,14 +1,14 @@
 -- Document 01, "Blocks, groups and tails".
 --
---   block_limit          the most bytes of a block
---   is_start_lem s p         p is 0, or stands just past a byte below 128
+--   block_limit         the most bytes of a block
+--   is_start_lem s p    p is 0, or stands just past a byte below 128
 --   Val                 a number by the rule that it was read by
---   read_by rule g       the reading of a group by the rule: its number, or the reason why it has none, with the place of the byte that decided it,
+--   read_by rule g      the reading of a group by the rule: its number, or the reason why it has none, with the place of the byte that decided it,
 --                       counted from the group's front; `valued` says by which rule it was read
 --   Stepped             what a step says, in document 01's numbers and values; its last number is the place of the cursor handed back
---   says, says_by        what a step says of a group: its number, or else a gap, whose place is counted from the block's front
+--   says, says_by       what a step says of a group: its number, or else a gap, whose place is counted from the block's front
 --   stepping rule s p   the rows of a step in their order
---   setting_down s p     the least start at or after p, or 8
+--   setting_down s p    the least start at or after p, or 8
 use Rattle.std.specs.Prelude.{ℕ, ◌+◌, ◌-◌, List, Bool, not, leb, ltb, eqb, ℤ, length, get_or, take, drop}
 use Rattle.words.specs.Answer.{pick, Answer, gives, refused, either, by, Why, moved}
 use Rattle.groups.specs.Group.{run}

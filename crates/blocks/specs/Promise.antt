@@ -1,9 +1,9 @@
 -- What the functions of this crate promise.
 --
---   means_value                the number that a step gives, by its rule
+--   means_value                  the number that a step gives, by its rule
 --   means_step, means_set_down   what the answers of a step and of a set-down say
---   Steps                     a step of a cursor at the place p of the block s, by the rule
---   SetsDown                  set-down at the place p of the block s
+--   Steps                        a step of a cursor at the place p of the block s, by the rule
+--   SetsDown                     set-down at the place p of the block s
 use Rattle.std.specs.Prelude.{ℕ, List, ◌≡◌}
 use Rattle.words.specs.Answer.{Answer, gives, refused, because, because_at}
 use Rattle.blocks.specs.Block.{Val, unsigned, signed, Stepped, number, gap, tail, finished, refuses, stepping, setting_down}

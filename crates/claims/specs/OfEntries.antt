@@ -2,24 +2,24 @@
 -- entries/specs/Saying.antt, and the rows of the refusals stand beside the promise there. Damage: a stretch x of the block a ++ x ++ b is replaced by
 -- y, any of them empty.
 --
---   GoodRead, BadRead        a good entry is given, and 10 for a bad one, exactly when the first entry from the place on is that
---   RefusesEntry             7, 4 and 8 are given exactly by their rows
---   OfWidths x               the numbers of x are of their widths
---   EntryTries               bytes to try
---   GoodForm                 the bytes of a good entry are exactly the form of what it says, with no absurd turn,
---   OneForm                  and that is the form of nothing else
---   AbsurdRead               10 is the answer to an entry that is such a form but for its absurd turn
---   WritesEntries            the writer: 10 for an absurd turn, else that form at the place and all else kept, or 5
---   WrittenBack              an entry written alone reads back
---   RefusedUnread            and one refused by 10 would not have
---   EntryOfMark              each mark opens one entry
---   EntriesInOrder           entries read one after another from a place on are those of the marks from there on, in order, and no other
---   MarkUnread               a step and the listing still call a mark NotShortest, decided by its second byte
---   EntryFront, EntryBack    where entries stand, good and bad alike, and what a reader answers there
---   SameMoved n n'           the same answer, the place where the entry ends moved by the change in length from n to n'
+--   GoodRead, BadRead           a good entry is given, and 10 for a bad one, exactly when the first entry from the place on is that
+--   RefusesEntry                7, 4 and 8 are given exactly by their rows
+--   OfWidths x                  the numbers of x are of their widths
+--   EntryTries                  bytes to try
+--   GoodForm                    the bytes of a good entry are exactly the form of what it says, with no absurd turn,
+--   OneForm                     and that is the form of nothing else
+--   AbsurdRead                  10 is the answer to an entry that is such a form but for its absurd turn
+--   WritesEntries               the writer: 10 for an absurd turn, else that form at the place and all else kept, or 5
+--   WrittenBack                 an entry written alone reads back
+--   RefusedUnread               and one refused by 10 would not have
+--   EntryOfMark                 each mark opens one entry
+--   EntriesInOrder              entries read one after another from a place on are those of the marks from there on, in order, and no other
+--   MarkUnread                  a step and the listing still call a mark NotShortest, decided by its second byte
+--   EntryFront, EntryBack       where entries stand, good and bad alike, and what a reader answers there
+--   SameMoved n n'              the same answer, the place where the entry ends moved by the change in length from n to n'
 --   EntriesFront, EntriesBack   what a reader gives of the whole block: the entries in each of the two parts are the same list
---   EntriesMet, EntriesOne   an answer meets each promise, and no second
---   OfEntries                all of it
+--   EntriesMet, EntriesOne      an answer meets each promise, and no second
+--   OfEntries                   all of it
 use Rattle.std.specs.Prelude.{ℕ, ◌+◌, ◌≤◌, ◌<◌, ◌≡◌, List, [], ◌∷◌, ◌++◌, ◌↔◌, pos, neg_ℤ, length, take, drop}
 use Rattle.words.specs.Answer.{refused, because_at}
 use Rattle.words.specs.Lays.{LaysExactly}

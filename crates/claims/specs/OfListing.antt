@@ -1,7 +1,7 @@
 -- What is claimed of the listing, and of the program that writes it.
 --
 --   Digits                   a number in decimal
---   rows_from s p, Rows       the rows of the block s from the place p on: that of the group or of the tail that stands there, and those behind it
+--   rows_from s p, Rows      the rows of the block s from the place p on: that of the group or of the tail that stands there, and those behind it
 --   Fits                     every listing fits into a buffer of `text_room` bytes
 --   AboveLimit               an input above the limit has the text `refused 7`, one line without header
 --   FrontEnough              the first bytes of an input, more than the limit, have its text

@@ -3,7 +3,7 @@
 --   Accepts, Refuses, Excludes, Exhausts             demand 2, readers
 --   Decides                                          which byte decides a refusal
 --   Writes                                           demand 2, writers
---   Shortest, Most, most_bytes, zero_of                how a number is spelled, in how many bytes, and zero
+--   Shortest, Most, most_bytes, zero_of              how a number is spelled, in how many bytes, and zero
 --   Grows, GrowthValues                              at which values a number grows by a byte
 --   TwosComplement, Within, SignedForm, OneTooMany   how a signed number is spelled
 --   WriteRead, ReadWrite, MoreBehind, SomeByte       round trips, and what the source calls prefix-secure and productive

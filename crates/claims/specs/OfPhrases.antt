@@ -1,17 +1,17 @@
 -- What is claimed of phrases: document 02, #110. The grammar is phrases/specs/Grammar.antt, and the rows of the refusals stand beside the promise there.
 --
---   FillsPhrase, LeavesSlice    the reader: when it fills the slice, and what it leaves there
---   RefusesPhrase               it refuses exactly by its rows
---   many ps                     how many items there are in a row
---   spelled p                   the numbers of an item that says p; `spelled_of`: of several in a row
---   depth p                     how deep branches nest in it; `deepest`: in several in a row
---   SpelledPhrase               the good lists are the numbers of what nests at most 8 deep
---   OneReading, NoFront         a good list has one reading, and is no front of another
---   inside k                    a leaf inside k branches, each of which has one item
---   NestsTo8                    the eighth branch is good, the ninth is not
---   EmptyPhrases                an empty branch is good, and an empty list is not
---   PhrasesMet, PhrasesOne      an answer meets the promise, and no second
---   OfPhrases                   all of it
+--   FillsPhrase, LeavesSlice   the reader: when it fills the slice, and what it leaves there
+--   RefusesPhrase              it refuses exactly by its rows
+--   many ps                    how many items there are in a row
+--   spelled p                  the numbers of an item that says p; `spelled_of`: of several in a row
+--   depth p                    how deep branches nest in it; `deepest`: in several in a row
+--   SpelledPhrase              the good lists are the numbers of what nests at most 8 deep
+--   OneReading, NoFront        a good list has one reading, and is no front of another
+--   inside k                   a leaf inside k branches, each of which has one item
+--   NestsTo8                   the eighth branch is good, the ninth is not
+--   EmptyPhrases               an empty branch is good, and an empty list is not
+--   PhrasesMet, PhrasesOne     an answer meets the promise, and no second
+--   OfPhrases                  all of it
 use Rattle.std.specs.Prelude.{ℕ, zero, suc, max, ◌+◌, ◌*◌, ◌≤◌, List, [], ◌∷◌, ◌++◌, ◌↔◌, ◌≡◌, length, drop}
 use Rattle.words.specs.declared.Refusal.{Refusal}
 use Rattle.lists.specs.Lists.{list_limit}

@@ -1,17 +1,17 @@
 -- What is claimed of setting slips: document 02, #104. A setting is spoken of as its kind and its words, which are the bits of its floats.
 --
---   BadFloat, Bad                                            what makes a setting bad
---   Words ms ws                                              there is a word of 32 bits for each measure
---   Good                                                     a kind that there is, with the words of its measures, and not bad
---   SlipRow                                                  the row of each refusal of the reader, in the order of the tests
---   AcceptsSlip, RefusesSlip, ExcludesSlip, ExhaustsSlip     the reader
---   WritesSlip                                               the writer
---   SlipWriteRead, SlipReadWrite, SlipSpelled, OneSlip       the bits come back as they went, and how they are spelled
---   SlipLength                                               the kind fixes how many bytes those are
---   SlipBehind                                               bytes behind a body are not looked at
---   InRange, NoNumber                                        whether a torque lies in a range
---   SlipsMet, SlipsOne                                       an answer meets each promise, and no second
---   OfSlips                                                  all of it
+--   BadFloat, Bad                                          what makes a setting bad
+--   Words ms ws                                            there is a word of 32 bits for each measure
+--   Good                                                   a kind that there is, with the words of its measures, and not bad
+--   SlipRow                                                the row of each refusal of the reader, in the order of the tests
+--   AcceptsSlip, RefusesSlip, ExcludesSlip, ExhaustsSlip   the reader
+--   WritesSlip                                             the writer
+--   SlipWriteRead, SlipReadWrite, SlipSpelled, OneSlip     the bits come back as they went, and how they are spelled
+--   SlipLength                                             the kind fixes how many bytes those are
+--   SlipBehind                                             bytes behind a body are not looked at
+--   InRange, NoNumber                                      whether a torque lies in a range
+--   SlipsMet, SlipsOne                                     an answer meets each promise, and no second
+--   OfSlips                                                all of it
 use Rattle.std.specs.Prelude.{ℕ, ◌+◌, ◌*◌, ◌≤◌, ◌<◌, ◌^◌, Bool, true, false, List, ◌∷◌, ◌++◌, ◌↔◌, ◌⊎◌, ◌≡◌, Float, pos, length, get_or, take, drop}
 use Rattle.std.specs.Float.{nan, inf, fin, binary32}
 use Rattle.std.specs.Float.Ieee.{of_bits, lt}

@@ -1,9 +1,9 @@
 -- `spec_parse` and `spec_serialize_helper` of the source (`leb128.rs`), ported as they stand, with division and remainder for its
 -- shifts and masks, and emptiness before the first byte. Numbers are those of `UInt`, u64.
 --
---   n_bit_max_unsigned         the source's macro `n_bit_max_unsigned!`; the others are in bits/specs/Macros.antt
---   spec_parse               the count of bytes and the number, or none; `spec_parse_more`: with a byte in front
---   spec_serialize_helper    the bytes of a number; `spec_serialize_within`: the same, over a bound on how many there can be
+--   n_bit_max_unsigned      the source's macro `n_bit_max_unsigned!`; the others are in bits/specs/Macros.antt
+--   spec_parse              the count of bytes and the number, or none; `spec_parse_more`: with a byte in front
+--   spec_serialize_helper   the bytes of a number; `spec_serialize_within`: the same, over a bound on how many there can be
 use Rattle.std.specs.Prelude.{ℕ, zero, suc, ◌+◌, ◌-◌, ◌*◌, ◌/◌, ◌^◌, List, [], ◌∷◌, true, false, ltb, leb, eqb}
 use Rattle.std.proofs.Math.Option.{Option, some, none}
 use Rattle.words.specs.Answer.{pick, both}

@@ -1,8 +1,8 @@
 -- Document 01, "Bytes to try": the rows marked *, as one table; a refusal with the place of the byte that decided it.
 --
---   Rows w                    each of these bytes, read at the width w from place 0 on, gets this answer
+--   Rows w                     each of these bytes, read at the width w from place 0 on, gets this answer
 --   rows64, rows32, rows_i64   the rows at each width
---   Starred                   the table
+--   Starred                    the table
 use Rattle.std.specs.Prelude.{ℕ, ◌-◌, ◌^◌, List, [], ◌∷◌, ◌++◌, ◌≡◌, ℤ, pos, neg_ℤ, replicate}
 use Rattle.words.specs.Answer.{Answer, gives, refused, by_at}
 use Rattle.groups.specs.Width.{Width, read}

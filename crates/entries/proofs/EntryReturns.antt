@@ -1,7 +1,7 @@
 -- The promise of `read_entry`, return by return.
 --
---   behind_mark    the bytes of an entry behind its mark
---   heard_numbers, heard_fault   what `hear` says of the bytes from a place on, by its answer
+--   behind_mark                                                                      the bytes of an entry behind its mark
+--   heard_numbers, heard_fault                                                       what `hear` says of the bytes from a place on, by its answer
 --   block_too_long, place_past, none_ahead, entry_good, entry_faulty, entry_longer   the answers
 use Prim.Native.Nat.{ℕ, zero, suc, ◌+◌, ◌-◌, ◌≤◌, ◌<◌}
 use mathlib.Core.Path.{◌≡◌, refl, ap, sym, ◌∙◌, subst}

@@ -1,9 +1,9 @@
 -- No mark stands among the numbers of an entry: each field refuses it.
 --
---   mark_unread      by either rule a mark is refused by 3, decided by its second byte
---   Refuse fs        none of the fields fs reads a mark; `fields_refuse`: those of an entry
---   part_behind      a mark of a block, in the bytes from some place before it on
---   no_mark_said     where fields that refuse it read numbers, no mark begins in front of what stands behind these
+--   mark_unread    by either rule a mark is refused by 3, decided by its second byte
+--   Refuse fs      none of the fields fs reads a mark; `fields_refuse`: those of an entry
+--   part_behind    a mark of a block, in the bytes from some place before it on
+--   no_mark_said   where fields that refuse it read numbers, no mark begins in front of what stands behind these
 use Prim.Native.Nat.{ℕ, ◌+◌, ◌-◌, ◌≤◌, ◌<◌}
 use mathlib.Core.Path.{◌≡◌, refl, ap, sym, ◌∙◌, subst}
 use mathlib.Core.List.{List, [], ◌∷◌, ◌++◌}

@@ -1,16 +1,16 @@
 -- The promise of `read_entry` is met by one answer on every block, at every place.
 --
---   entry_bytes     the bytes of an entry behind its mark are bytes
---   one_is          one entry stands at a place, with one verdict on it
---   one_first       the first entry from a place on has one verdict and one end
---   one_row         no two rows hold
---   one_answered    no second answer
---   same_entry      answers that mean the same are the same
---   answer_of        the reader's answer to an entry that ends at a place; `answer_means`: what it says; `reads_first`: it keeps the promise
---   some_is         at each mark stands an entry with a verdict
---   some_answer     some answer there is
---   ended_same      an answer to an entry tells its verdict and the place where it ends
---   first_of        what an answer to an entry rests on; `refused_by`: what a refusal does
+--   entry_bytes    the bytes of an entry behind its mark are bytes
+--   one_is         one entry stands at a place, with one verdict on it
+--   one_first      the first entry from a place on has one verdict and one end
+--   one_row        no two rows hold
+--   one_answered   no second answer
+--   same_entry     answers that mean the same are the same
+--   answer_of      the reader's answer to an entry that ends at a place; `answer_means`: what it says; `reads_first`: it keeps the promise
+--   some_is        at each mark stands an entry with a verdict
+--   some_answer    some answer there is
+--   ended_same     an answer to an entry tells its verdict and the place where it ends
+--   first_of       what an answer to an entry rests on; `refused_by`: what a refusal does
 use Prim.Native.Nat.{ℕ, zero, suc, ◌+◌, ◌≤◌}
 use mathlib.Core.List.{List, [], ◌∷◌}
 use mathlib.Core.Path.{◌≡◌, refl, ap, sym, ◌∙◌, subst}
@@ -18,7 +18,6 @@ use native.Mathlib.Omega.{arith}
 use lib.ListN.{length, take, drop}
 use lib.Seq.{get_or-drop}
 use Rattle.words.specs.Answer.{Answer, gives, refused, because, by, by_at}
-use Rattle.words.specs.declared.Place.{Place}
 use Rattle.words.specs.declared.Refusal.{Refusal}
 use Rattle.words.specs.declared.Refusal.TheVariants as Why
 use Rattle.words.proofs.Cases.{by_order}

@@ -1,6 +1,6 @@
 -- An entry laid down where there is room for it: the mark, and the numbers' forms one behind another.
 --
---   form_spelling              a number's form is the bytes that spell it
+--   form_spelling             a number's form is the bytes that spell it
 --   stored_form               so where those are laid down, it is
 --   form_ten                  a number of 64 bits takes ten bytes at most; `signed_ten`: a signed one
 --   entry_takes               how many bytes an entry takes

@@ -1,9 +1,9 @@
 -- Lists in order: what is in one tells it.
 --
---   in_from        what is in a list that grows from n on stands at n or later
---   ordered_up     a list that grows from n on grows from what is less, too
---   same_list      lists in order with the same things in them are equal
---   same_triple    triples are equal where their parts are
+--   in_from       what is in a list that grows from n on stands at n or later
+--   ordered_up    a list that grows from n on grows from what is less, too
+--   same_list     lists in order with the same things in them are equal
+--   same_triple   triples are equal where their parts are
 use Prim.Native.Nat.{ℕ, suc, ◌≤◌}
 use mathlib.Core.Path.{◌≡◌, refl, ap, sym, ◌∙◌, subst}
 use mathlib.Core.List.{List, [], ◌∷◌}

@@ -1,11 +1,11 @@
 -- Where entries stand: they are local with reach 2, and one stands at each mark.
 --
---   entries_local      whether an entry stands before a cut depends on the following mark's two bytes, and on nothing behind them
---   one_entry          at a mark stands one entry
---   entry_there        and one does: the bytes up to the next mark or to the end; `entry_end`: where it ends
---   some_entry         so each mark opens one
---   entry_long         an entry has its mark's two bytes
---   behind_entry       no mark stands in it behind its own
+--   entries_local   whether an entry stands before a cut depends on the following mark's two bytes, and on nothing behind them
+--   one_entry       at a mark stands one entry
+--   entry_there     and one does: the bytes up to the next mark or to the end; `entry_end`: where it ends
+--   some_entry      so each mark opens one
+--   entry_long      an entry has its mark's two bytes
+--   behind_entry    no mark stands in it behind its own
 use Prim.Native.Nat.{ℕ, ◌+◌, ◌-◌, ◌≤◌, ◌<◌}
 use mathlib.Core.Path.{◌≡◌, ap, sym, ◌∙◌, subst}
 use mathlib.Core.List.{List, ◌++◌}

@@ -1,7 +1,7 @@
 -- What the functions inside the crate promise.
 --
---   Tells P t    the test t says whether P
---   Hears l r    r says which entry's numbers the bytes l begin with, and the count of their bytes; or they begin with none's
+--   Tells P t   the test t says whether P
+--   Hears l r   r says which entry's numbers the bytes l begin with, and the count of their bytes; or they begin with none's
 use Rattle.std.specs.Prelude.{ℕ, ◌≤◌, Bool, true, false, List, length, drop}
 use Rattle.entries.specs.Saying.{SaysEntry}
 use Rattle.entries.specs.declared.Entry.{Entry}

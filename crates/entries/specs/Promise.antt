@@ -1,13 +1,13 @@
 -- What the functions of this crate promise.
 --
---   EntryIs s m n v        the entry that stands at the place m of s has n bytes, and v is the verdict on it
---   FirstEntry s p v q     the entry of the least mark at p or later has the verdict v, and ends at q
---   EntryRefused           the row of each refusal without a place, in the order of the tests
---   ended v q              the answer to an entry that ends at q: what it says, or 10, each with that place
---   Answered s p a         a is the answer to the block s and the place p
---   means_read_entry         what the reader's answer says
---   ReadsEntry s p r       reading an entry of the block s at the place p or later answers r
---   entry_form x            the bytes of an entry that says x: the mark, and the forms of its numbers
+--   EntryIs s m n v            the entry that stands at the place m of s has n bytes, and v is the verdict on it
+--   FirstEntry s p v q         the entry of the least mark at p or later has the verdict v, and ends at q
+--   EntryRefused               the row of each refusal without a place, in the order of the tests
+--   ended v q                  the answer to an entry that ends at q: what it says, or 10, each with that place
+--   Answered s p a             a is the answer to the block s and the place p
+--   means_read_entry           what the reader's answer says
+--   ReadsEntry s p r           reading an entry of the block s at the place p or later answers r
+--   entry_form x               the bytes of an entry that says x: the mark, and the forms of its numbers
 --   WritesEntry x s at r out   writing the entry x at the place of s answers r and leaves out: 10 and all as it was, or the form laid down
 use Rattle.std.specs.Prelude.{ℕ, ◌+◌, ◌≤◌, ◌<◌, ◌≡◌, List, ◌++◌, length, drop}
 use Rattle.words.specs.Answer.{Answer, gives, refused, because, because_at}

@@ -1,14 +1,14 @@
 -- The table of growth values: its rule, tested once over the whole table, and what looking a number up in it tells.
 --
---   as_twice         a number spelled until what is left is below 64 takes as many bytes as twice the number, unsigned
---   pow_more         the next power of 128 is 128 times as much
---   unsigned_some    some byte spells a number, unsigned,
---   unsigned_short   at most k + 1 do where it is below 128 to the k + 1,
---   unsigned_long    and more than k + 1 where it is not
---   growth_at_lem        the growth values are 128 to the powers from 1 to 9
---   one_byte         a number below 128 takes one byte
---   Nearly v n       v takes n bytes, 1 to 9, or one more,
---   by_bits          and where n is the eighths of its bits and one, it does
+--   as_twice                           a number spelled until what is left is below 64 takes as many bytes as twice the number, unsigned
+--   pow_more                           the next power of 128 is 128 times as much
+--   unsigned_some                      some byte spells a number, unsigned,
+--   unsigned_short                     at most k + 1 do where it is below 128 to the k + 1,
+--   unsigned_long                      and more than k + 1 where it is not
+--   growth_at_lem                      the growth values are 128 to the powers from 1 to 9
+--   one_byte                           a number below 128 takes one byte
+--   Nearly v n                         v takes n bytes, 1 to 9, or one more,
+--   by_bits                            and where n is the eighths of its bits and one, it does
 --   growth_passed, growth_not_passed   the value between the two tells which
 use Prim.Native.Nat.{ℕ, zero, suc, ◌+◌, ◌-◌, ◌*◌, ◌/◌, ◌^◌, ◌≤◌, ◌<◌}
 use mathlib.Core.Path.{◌≡◌, refl, ap, sym, ◌∙◌}

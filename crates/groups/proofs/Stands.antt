@@ -1,17 +1,17 @@
 -- A reading accepts exactly where a group that the width accepts stands at the place, whatever follows it.
 --
---   Stands w s at v n          such a group stands there, v is its value and n its length
---   run_behind                 bytes behind a group leave its run as it is
---   front_group                the bytes through the first below 128 are a group
---   large_behind               bytes behind a group leave row 2's test as it is
---   reading_behind             a group with bytes behind it is read by its own bytes: rows 2 and 3, else its value and length
---   stands_read, read_stands   from the group to the reading, and back
---   stands_through             such a group goes through the first byte below 128, which is there
---   form_read                  where the bytes begin with a form that the width accepts, with its value, the number is read
---   read_form                  and back, from a group that is such a form
---   count_within               a group that stands so has at most the most bytes
+--   Stands w s at v n              such a group stands there, v is its value and n its length
+--   run_behind                     bytes behind a group leave its run as it is
+--   front_group                    the bytes through the first below 128 are a group
+--   large_behind                   bytes behind a group leave row 2's test as it is
+--   reading_behind                 a group with bytes behind it is read by its own bytes: rows 2 and 3, else its value and length
+--   stands_read, read_stands       from the group to the reading, and back
+--   stands_through                 such a group goes through the first byte below 128, which is there
+--   form_read                      where the bytes begin with a form that the width accepts, with its value, the number is read
+--   read_form                      and back, from a group that is such a form
+--   count_within                   a group that stands so has at most the most bytes
 --   reading_value, reading_count   the number that is given is the value of the bytes through the first below 128, and the count is theirs
---   reading_alone              where some byte is below 128, reading all the bytes is reading those through the first such
+--   reading_alone                  where some byte is below 128, reading all the bytes is reading those through the first such
 use Prim.Native.Nat.{ℕ, suc, ◌+◌, ◌-◌, ◌≤◌, ◌<◌}
 use mathlib.Core.Path.{◌≡◌, refl, ap, sym, ◌∙◌}
 use mathlib.Core.List.{List, [], ◌∷◌, ◌++◌, append-nil}

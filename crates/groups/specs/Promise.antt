@@ -1,11 +1,11 @@
 -- What the functions of this crate promise.
 --
---   walked s at                   how the bytes of s from the place at on go: past the end; all high and fewer than ten; ten high ones; or
---                                 high ones closed by one below 128, with what the high ones sum to and what the closing one weighs
---   walking l                     the same of all the bytes l
---   Walks s at r                  walking them answers r
---   SpelledLength n r             so many bytes spell the number n
---   Stores n s at r out           the bytes that spell the number n are laid down at this place of s, or none
+--   walked s at           how the bytes of s from the place at on go: past the end; all high and fewer than ten; ten high ones; or
+--                         high ones closed by one below 128, with what the high ones sum to and what the closing one weighs
+--   walking l             the same of all the bytes l
+--   Walks s at r          walking them answers r
+--   SpelledLength n r     so many bytes spell the number n
+--   Stores n s at r out   the bytes that spell the number n are laid down at this place of s, or none
 use Rattle.std.specs.Prelude.{ℕ, ◌^◌, List, ◌≡◌, leb, ltb, eqb, length, get_or, take, drop}
 use Rattle.words.specs.Answer.{pick}
 use Rattle.words.specs.Lays.{Lays, Takes}

@@ -1,14 +1,14 @@
 -- Document 01, "When the number desk refuses": reading is its table, over any width. Below, l is the bytes from the start on.
 --
---   Width A          what a width fixes for numbers of type A
---   runs_out w l      row 1: fewer bytes than the most, and each is 128 or more
---   is_too_large w l     row 2: all earlier bytes are 128 or more, and the byte at the greatest length is not allowed there
---   is_too_many w l      row 3: the last byte isn't the first, and is one too many
---   reading w l      the rows in their order, each with the place in l of the byte that decided it: 1 the end of l, 2 the byte at the greatest length,
---                    3 the last byte; else the value and the count of the bytes through the first below 128
---   read w s at      reading s from the place at on: its places are those of s; past the end refused by 4, decided by the start asked
---   Due b a          the answer that is given, a, is the one that is due, b
---   Reads w s at a   what a reader of the width promises: a is what the table says of s from the place at on
+--   Width A            what a width fixes for numbers of type A
+--   runs_out w l       row 1: fewer bytes than the most, and each is 128 or more
+--   is_too_large w l   row 2: all earlier bytes are 128 or more, and the byte at the greatest length is not allowed there
+--   is_too_many w l    row 3: the last byte isn't the first, and is one too many
+--   reading w l        the rows in their order, each with the place in l of the byte that decided it: 1 the end of l, 2 the byte at the greatest length,
+--                      3 the last byte; else the value and the count of the bytes through the first below 128
+--   read w s at        reading s from the place at on: its places are those of s; past the end refused by 4, decided by the start asked
+--   Due b a            the answer that is given, a, is the one that is due, b
+--   Reads w s at a     what a reader of the width promises: a is what the table says of s from the place at on
 use Rattle.std.specs.Prelude.{ℕ, ◌+◌, ◌-◌, List, Bool, not, ◌≡◌, leb, ltb, eqb, length, get_or, take, drop}
 use Rattle.words.specs.Answer.{pick, both, Answer, gives, refused, by_at, moved}
 use Rattle.groups.specs.Group.{run}

@@ -18,11 +18,10 @@ use lib.ListN.{length, take, drop, length-drop}
 use lib.Seq.{length-take-le}
 use lib.IntN.{ℤ, pos, negsuc, nat_abs}
 use lib.Signed.{lt_z, non_neg}
-use Rattle.libc.specs.Io.{Moved}
 use Rattle.words.specs.declared.Count.{Count}
 use Rattle.words.proofs.Cases.{by_order, clash}
 use Rattle.listing.specs.Program.{Known, bytes, failed, more, ended, input_room, following}
-use Rattle.list.specs.Promise.{Follows, InputWithin}
+use Rattle.list.specs.Promise.{Moved, Follows, InputWithin}
 use Rattle.list.specs.declared.Input.TheVariants as I
 use Rattle.list.specs.declared.Taken.TheVariants as T
 

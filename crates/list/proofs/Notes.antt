@@ -15,6 +15,7 @@ use Rattle.texts.proofs.Decimals.{decimal_within_lem}
 use Rattle.blocks.specs.Block.{block_limit}
 use Rattle.listing.specs.Program.{limit_note}
 use Rattle.list.specs.Promise.{LaysNoteOf}
+use Rattle.list.specs.declared.Input.{Input}
 use Rattle.list.specs.declared.Input.TheVariants as I
 use Rattle.listing.proofs.Laid.{fronts}
 
@@ -37,3 +38,17 @@ module _ (before : List ℕ) {after : List ℕ} {r : ℕ} (room : length before 
 pub no_note : (n : Count) (w : Bool) {before : List ℕ} → not w ≡ false → n.0 ≤ block_limit → LaysNoteOf (I.Bytes n) w before 0 before
 no_note n false e h = clash e refl
 no_note n true e h = rw (le-ltb block_limit n.0 h) (record { count = refl; bytes = refl })
+
+-- the same by what the code has tested of the input and of the writing: these close the goals of `lay_note`
+module _ (i : Input) (w : Bool) {before : List ℕ} where
+  pub note_failed : {after : List ℕ} {r : ℕ} → i ≡ I.Failed → length before ≡ 128 → LaysText (ascii "list: the input can't be read\n") before 0 r after
+      → LaysNoteOf i w before r after
+  note_failed e room p = rw e (failed_note before room w p)
+
+  pub note_unwritten : (n : Count) {after : List ℕ} {r : ℕ} → i ≡ I.Bytes n → w ≡ false → length before ≡ 128
+      → LaysText (ascii "list: the listing can't be written\n") before 0 r after → LaysNoteOf i w before r after
+  note_unwritten n e f room p = rw e (unwritten_note before room n w (rw f refl) p)
+
+  pub note_above : (n : Count) {after : List ℕ} {r : ℕ} → i ≡ I.Bytes n → w ≡ true → block_limit < n.0 → length before ≡ 128
+      → LaysText limit_note before 0 r after → LaysNoteOf i w before r after
+  note_above n e f h room p = rw e (above_note before room n w (rw f refl) h p)

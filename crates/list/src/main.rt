@@ -4,15 +4,15 @@
 // call the system only pass on what it answers: tools/check_code lets no test and no number stand in them.
 #![tactic(auto)]
 
-ghost use Rattle.std.specs.Prelude.{◌-◌, ◌≤◌, ◌<◌, ◌≡◌, length};
-ghost use Rattle.libc.specs.Io.{Moved};
+ghost use Rattle.std.specs.Prelude.{◌-◌, ◌≤◌, ◌<◌, ◌≡◌, length, MatchResult, pos, negsuc};
+ghost use Rattle.std.specs.Io.{ReadsAtMost};
 ghost use Rattle.texts.specs.Texts.{LaysText};
 ghost use Rattle.listing.specs.Program.{input_room, limit_note};
-ghost use Rattle.list.specs.Promise.{means_input, InputWithin, Follows, LaysTextOf, LaysNoteOf};
+ghost use Rattle.list.specs.Promise.{Moved, means_input, InputWithin, Follows, LaysTextOf, LaysNoteOf};
 
 use blocks::BLOCK_LIMIT;
-use libc::{STDERR_FILENO, STDIN_FILENO, STDOUT_FILENO};
 use listing::{TEXT_ROOM, lay_listing};
+use std::io::{Print, Read, Result, Stdin};
 use words::Count;
 
 // So much of the input is asked for: a byte more than a block may have, by which an input above the limit is seen to be so.
@@ -33,6 +33,26 @@ enum Input {
 enum Taken {
     More(Count),
     Ended(Input),
+}
+
+// What a read answered, as a number: below zero it failed, else so many bytes stand at the front of the part that it was lent.
+fn moved(answer: Result<usize>, part: &[u8]) -> isize
+    requires { ReadsAtMost answer part.now }
+    ensures within { Moved (length part.now) result }
+    ensures is { MatchResult answer (λ n. result ≡ pos n) (λ _. result ≡ negsuc 0) }
+{
+    match answer {
+        Ok(n) => n as isize,
+        Err(_) => -1,
+    }
+}
+
+// Reads once into the part of the input that is still to come.
+fn read_some(mut from: Stdin, part: &mut [u8]) -> isize
+    ensures { Moved (length part.old) result }
+{
+    let answer = from.read(part);
+    moved(answer, part)
 }
 
 // What follows where a read behind the first bytes of the input has answered `got`: below zero it failed, and zero is the input's end.
@@ -57,14 +77,14 @@ fn after_read(there: Count, got: isize) -> Taken
 }
 
 // Reads the input to its end, or until a byte more is there than a block may have.
-fn take_in(input: &mut [u8]) -> Input
+fn take_in(from: Stdin, input: &mut [u8]) -> Input
     requires { length input.old ≡ input_room }
     ensures { InputWithin (means_input result) }
 {
     let mut so_far = Count(0);
     loop {
         let n = so_far.0;
-        let got = libc::read(STDIN_FILENO, &mut input[n..]);
+        let got = read_some(from, &mut input[n..]);
         match after_read(so_far, got) {
             Taken::More(count) => {
                 so_far = count;
@@ -120,30 +140,31 @@ fn lay_note(known: Input, written: bool, note: &mut [u8; NOTE_ROOM]) -> Count
 }
 
 // Writes the first bytes of the buffer, and says whether all could be written.
-fn put(file: i32, bytes: &[u8], count: Count) -> bool
+fn put(to: &impl Print, bytes: &[u8], count: Count) -> bool
     requires { count.0 ≤ length bytes.now }
 {
     let n = count.0;
-    io::write_all(file, &bytes[..n])
+    to.write_all(&bytes[..n]).is_ok()
 }
 
 // Lists the input. The arrays come from `main`: to lend one as a slice where it is made costs the check a step for each of its
 // bytes.
 fn list_input(
+    rt: HostRuntime,
     input: &mut [u8; INPUT_ROOM],
     text: &mut [u8; TEXT_ROOM],
     note: &mut [u8; NOTE_ROOM],
 ) {
-    let known = take_in(input);
+    let known = take_in(rt.stdin(), input);
     let listed = lay_text(known, input, text);
-    let written = put(STDOUT_FILENO, text, listed);
+    let written = put(&rt.stdout(), text, listed);
     let noted = lay_note(known, written, note);
-    put(STDERR_FILENO, note, noted);
+    put(&rt.stderr(), note, noted);
 }
 
-fn main() {
+fn main(rt: HostRuntime) {
     let mut input = [0u8; INPUT_ROOM];
     let mut text = [0u8; TEXT_ROOM];
     let mut note = [0u8; NOTE_ROOM];
-    list_input(&mut input, &mut text, &mut note);
+    list_input(rt, &mut input, &mut text, &mut note);
 }

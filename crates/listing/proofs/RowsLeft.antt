@@ -1,17 +1,17 @@
 -- The rows that are left at a place of a block, and what a step there says of them.
 --
---   Here s p           the place p is a start of the block s, or its end
---   left s p           the rows that are left there
+--   Here s p                          the place p is a start of the block s, or its end
+--   left s p                          the rows that are left there
 --   end_left, tail_left, group_left   what they are at the end, at a tail and at a group
---   Rowing s p x       x is the line of what stands there: none, where no row is left; or the first row that is left, with how many bytes it is of
---   rowing             so is the line of what a step says there, by the unsigned rule
---   no_row, next_row   what that says where a line is `none`, and where it is one (`Behind`: what is behind it)
-use Prim.Native.Nat.{ℕ, ◌+◌, ◌-◌, ◌≤◌, ◌<◌}
+--   Rowing s p x                      x is the line of what stands there: none, where no row is left; or the first row that is left, with how many bytes it is of
+--   rowing                            so is the line of what a step says there, by the unsigned rule
+--   no_row, next_row                  what that says where a line is `none`, and where it is one (`Behind`: what is behind it)
+use Prim.Native.Nat.{ℕ, ◌+◌, ◌≤◌, ◌<◌}
 use mathlib.Core.Path.{◌≡◌, refl, sym, ◌∙◌}
 use mathlib.Core.Logic.{◌⊎◌, inl, inr, ⊎_elim}
 use mathlib.Core.List.{List, [], ◌∷◌, ◌++◌, append-nil}
 use native.Mathlib.Omega.{arith}
-use lib.ListN.{length, drop, length-drop, drop_of_length-le}
+use lib.ListN.{length, drop, length-drop}
 use Rattle.words.specs.Answer.{Answer, gives, refused, moved}
 use Rattle.words.proofs.Moved.{number_kept}
 use Rattle.texts.specs.Texts.{ascii}

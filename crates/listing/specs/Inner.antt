@@ -1,11 +1,11 @@
 -- What the functions inside the crate ask and promise.
 --
---   word_of w          the word for what stands at a place
---   spaced t          the word t between two spaces
---   Line              what a line says: what stands there, its value and how many bytes of the block it is of; or that there is none
---   means_row          what an answer says of it
---   line_said x        the line of what a step says
---   SaysRow s p r     r is the line of what a step from the place p by the unsigned rule says
+--   word_of w       the word for what stands at a place
+--   spaced t        the word t between two spaces
+--   Line            what a line says: what stands there, its value and how many bytes of the block it is of; or that there is none
+--   means_row       what an answer says of it
+--   line_said x     the line of what a step says
+--   SaysRow s p r   r is the line of what a step from the place p by the unsigned rule says
 use Rattle.std.specs.Prelude.{ℕ, List, ◌++◌, ◌≡◌}
 use Rattle.texts.specs.Texts.{ascii}
 use Rattle.blocks.specs.Block.{unsigned, signed, Stepped, number, gap, tail, finished, refuses, stepping}

@@ -1,11 +1,11 @@
 -- The rules on the listing of a block (docs/RULES.md, "The listing"), as bytes.
 --
---   row p what v       the line `p what v`
---   fault k            the word for the fault of a group, 2 or 3
---   group_row p g       that of the group g at the place p: its number, or else its fault and its length; `row_of`: from its reading
---   rows p gs t        those of the groups gs and of the tail t, one after another, from the place p on
---   text s             the whole listing of an input s: the header and the rows; above the limit the one line `refused 7`
---   text_room           a buffer of so many bytes holds every listing
+--   row p what v    the line `p what v`
+--   fault k         the word for the fault of a group, 2 or 3
+--   group_row p g   that of the group g at the place p: its number, or else its fault and its length; `row_of`: from its reading
+--   rows p gs t     those of the groups gs and of the tail t, one after another, from the place p on
+--   text s          the whole listing of an input s: the header and the rows; above the limit the one line `refused 7`
+--   text_room       a buffer of so many bytes holds every listing
 use Rattle.std.specs.Prelude.{ℕ, ◌+◌, ◌*◌, List, [], ◌∷◌, ◌++◌, ltb, eqb, length}
 use Rattle.words.specs.Answer.{pick, Answer, gives, refused, Why, number_in}
 use Rattle.texts.specs.Texts.{ascii, decimal}

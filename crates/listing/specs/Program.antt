@@ -1,11 +1,11 @@
 -- What the program `list` makes of what the system answers: its text, and what it says on standard error.
 --
---   input_room       so much of the input is asked for: a byte more than a block may have, by which an input above the limit is seen to be so
+--   input_room      so much of the input is asked for: a byte more than a block may have, by which an input above the limit is seen to be so
 --   Known           the input: so many bytes, or that it can't be read
 --   Next            what follows on a read: another one, behind so many bytes; or the input is known
 --   following n k   what follows where a read behind the first n bytes of the input has answered k: below zero it failed, and 0 is the input's end
---   text_of i s      what is written for the input i, whose bytes stand at the front of s
---   note_of i w      what is said then, w being whether all of that could be written: nothing, or one line; `limit_note`: above the limit
+--   text_of i s     what is written for the input i, whose bytes stand at the front of s
+--   note_of i w     what is said then, w being whether all of that could be written: nothing, or one line; `limit_note`: above the limit
 use Rattle.std.specs.Prelude.{ℕ, zero, suc, ◌+◌, Bool, true, false, List, [], ◌++◌, ltb, ℤ, pos, negsuc, take}
 use Rattle.words.specs.Answer.{pick}
 use Rattle.texts.specs.Texts.{ascii, decimal}

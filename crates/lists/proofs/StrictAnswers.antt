@@ -1,10 +1,10 @@
 -- The answers of strict reading, from how many numbers the block has, or its first fault.
 --
---   block_too_long   a block above the limit is refused by 7, and the slice kept
---   block_faulty     one with a fault, by the first, with its place
---   slice_full       one of more numbers than the slice has room for, by 5
---   slice_fits       where there is room for as many numbers as the block has, they stand in it one behind another, so many;
---   slice_filled     stored from the front of the slice on, they are what strict reading answers and leaves
+--   block_too_long                     a block above the limit is refused by 7, and the slice kept
+--   block_faulty                       one with a fault, by the first, with its place
+--   slice_full                         one of more numbers than the slice has room for, by 5
+--   slice_fits                         where there is room for as many numbers as the block has, they stand in it one behind another, so many;
+--   slice_filled                       stored from the front of the slice on, they are what strict reading answers and leaves
 --   strict_by_count, filled_by_count   what it answers and leaves, by how many numbers the block has, or its first fault
 use Prim.Native.Nat.{ℕ, ◌≤◌, ◌<◌}
 use mathlib.Core.Path.{◌≡◌, refl, ap, sym, ◌∙◌}

@@ -1,11 +1,11 @@
 -- What the functions inside the crate ask and promise, over what is left of the block.
 --
---   number_ahead v a    the answer a with the number v in front
+--   number_ahead v a   the answer a with the number v in front
 --   many a             how many numbers
 --   StartsBefore s p   p is a start of the block s, before its end
 --   Behind s p v q     the number v stands at the start p, and q is the start behind it
 --   Passes s p r       r says what stands at the start p: a fault, or a number and the place behind it
---   means_scanned       what the first pass's answer says
+--   means_scanned      what the first pass's answer says
 --   Scans s r          r says how many numbers the block s has, or its first fault
 use Rattle.std.specs.Prelude.{ℕ, ◌≤◌, ◌<◌, List, ◌∷◌, ◌≡◌, length, drop}
 use Rattle.words.specs.Answer.{Answer, gives, refused, because_at}

@@ -1,11 +1,11 @@
 -- What the sound scan tells of a block, from each byte and those before it.
 --
---   High9 s k          nine bytes from the place k on are 128 or more
---   Spare s j          the byte at j is 0, and the one before it is 128 or more: it is one too many
---   Large s j          the byte at j is above 1, and the nine before it are 128 or more: with it a number is too large
---   Unmarked s         no byte behind the first nine is spare, and none too large
---   UnmarkedEarly s    no byte of the first nine is spare
---   Clean s            no byte is spare, none too large, and the last one is below 128
+--   High9 s k         nine bytes from the place k on are 128 or more
+--   Spare s j         the byte at j is 0, and the one before it is 128 or more: it is one too many
+--   Large s j         the byte at j is above 1, and the nine before it are 128 or more: with it a number is too large
+--   Unmarked s        no byte behind the first nine is spare, and none too large
+--   UnmarkedEarly s   no byte of the first nine is spare
+--   Clean s           no byte is spare, none too large, and the last one is below 128
 use Rattle.std.specs.Prelude.{ℕ, ◌+◌, ◌-◌, ◌≤◌, ◌<◌, List, ◌≡◌, length, get_or}
 
 abbrev pub High9 : List ℕ → ℕ → Type 0

@@ -1,10 +1,10 @@
 -- What the functions over eight bytes ask and promise.
 --
---   Accepts s at       from the place at on, s begins with a number of 64 bits, and has ten bytes or more
---   Found g v n        v is the number of the bytes of g through the first below 128, and n their count
---   Longest g b v n    eight bytes g of 128 or more, and b behind them: v and n, if a number of nine or ten bytes stands there
---   Widens ..          the k bytes from the place at on are stored as numbers from the n-th on, and all else is kept
---   Stores ..          they are, and r of them, from the front, are below 128
+--   Accepts s at      from the place at on, s begins with a number of 64 bits, and has ten bytes or more
+--   Found g v n       v is the number of the bytes of g through the first below 128, and n their count
+--   Longest g b v n   eight bytes g of 128 or more, and b behind them: v and n, if a number of nine or ten bytes stands there
+--   Widens ..         the k bytes from the place at on are stored as numbers from the n-th on, and all else is kept
+--   Stores ..         they are, and r of them, from the front, are below 128
 use Rattle.std.specs.Prelude.{ℕ, ◌+◌, ◌*◌, ◌%◌, ◌^◌, ◌≤◌, ◌<◌, ◌≡◌, List, length, take, drop}
 use Rattle.std.proofs.lemmas.List.Edits.{sets}
 use Rattle.words.specs.Answer.{gives}

@@ -1,7 +1,7 @@
 -- Document 01, "Blocks, groups and tails": list writing.
 --
 --   list_limit   the most numbers of a list
---   forms ns    the forms of the numbers, one after another
+--   forms ns     the forms of the numbers, one after another
 use Rattle.std.specs.Prelude.{ℕ, List, [], ◌∷◌, ◌++◌}
 use Rattle.uleb128.specs.Unsigned.{form}
 

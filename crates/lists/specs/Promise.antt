@@ -1,8 +1,8 @@
 -- What the functions of this crate promise.
 --
---   WritesList      writing the numbers ns at the place of s answers r and leaves out
+--   WritesList        writing the numbers ns at the place of s answers r and leaves out
 --   means_read_list   what strict reading's answer says
---   ReadsStrict     strict reading of the block s into the slice old answers r and leaves out
+--   ReadsStrict       strict reading of the block s into the slice old answers r and leaves out
 use Rattle.std.specs.Prelude.{ℕ, List, ◌≡◌, ltb, length}
 use Rattle.words.specs.Answer.{pick, refused, means_written, Answer, gives, by, because, because_at}
 use Rattle.words.specs.Lays.{writing, laid}

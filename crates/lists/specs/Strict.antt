@@ -1,11 +1,11 @@
 -- Document 01, "Blocks, groups and tails": strict reading, over lists of numbers.
 --
 --   numbers_of p gs t   the numbers of the groups gs, one after another from the place p on, if each is one and there is no tail t; else the first
---                      fault with its place: 2 or 3 in a group, decided by a byte of it; 1 for a tail, decided by the place behind it;
---                      `joined` puts the first in front of the others, and `numbers p l` is that of the bytes l from the place p on
---   strict s room      the answer of strict reading of the block s into a slice of so many numbers: how many, or 7, the first fault, 5;
---                      `counted`: from the numbers
---   filled s old       the slice afterwards; `filling`: from the numbers
+--                       fault with its place: 2 or 3 in a group, decided by a byte of it; 1 for a tail, decided by the place behind it;
+--                       `joined` puts the first in front of the others, and `numbers p l` is that of the bytes l from the place p on
+--   strict s room       the answer of strict reading of the block s into a slice of so many numbers: how many, or 7, the first fault, 5;
+--                       `counted`: from the numbers
+--   filled s old        the slice afterwards; `filling`: from the numbers
 use Rattle.std.specs.Prelude.{ℕ, ◌+◌, List, [], ◌∷◌, ◌++◌, leb, ltb, length, drop}
 use Rattle.words.specs.Answer.{pick, Answer, gives, refused, by, by_at, moved}
 use Rattle.groups.specs.Width.{reading}

@@ -1,7 +1,7 @@
 -- Whether a list is one item is decided.
 --
---   item_or_none    an item stands at the front of a list, or none; `items_or_none`: the same of so many
---   good_or_not     a list is good, or not
+--   item_or_none   an item stands at the front of a list, or none; `items_or_none`: the same of so many
+--   good_or_not    a list is good, or not
 use Prim.Native.Nat.{ℕ, zero, suc, ◌/◌, ◌%◌}
 use mathlib.Core.List.{List, [], ◌∷◌}
 use mathlib.Core.Logic.{◌⊎◌, inl, inr, ⊎_elim}

@@ -1,12 +1,12 @@
 -- Counting and storing the halves of the even numbers: what the two loops hold, over those that are left.
 --
---   Counted s at count               count of them stand before the place at, and the others behind it
---   none_counted, next_counted       at first none are counted, and with each even number one more
---   all_counted                      at the end all are
---   Stored s old out at count        and those that are counted are stored at the front of the slice
---   none_stored, next_stored         at first none are stored, and with each even number one more; what an odd one stores, the next even one stores over
---   next_number, next_fits           while some are left, a number is, and there is room
---   all_stored                       at the end all are
+--   Counted s at count           count of them stand before the place at, and the others behind it
+--   none_counted, next_counted   at first none are counted, and with each even number one more
+--   all_counted                  at the end all are
+--   Stored s old out at count    and those that are counted are stored at the front of the slice
+--   none_stored, next_stored     at first none are stored, and with each even number one more; what an odd one stores, the next even one stores over
+--   next_number, next_fits       while some are left, a number is, and there is room
+--   all_stored                   at the end all are
 use Prim.Native.Nat.{ℕ, suc, ◌+◌, ◌-◌, ◌/◌, ◌%◌, ◌≤◌, ◌<◌}
 use mathlib.Core.Path.{◌≡◌, refl, ap, sym, ◌∙◌}
 use mathlib.Core.List.{List, [], ◌∷◌}

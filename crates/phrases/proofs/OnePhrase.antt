@@ -1,9 +1,9 @@
 -- The promise of `read_phrase` is met by one answer, with one slice, on every list.
 --
---   one_row        no two rows hold
---   one_phrased    no second answer, and no second slice
---   same_phrase    answers that mean the same are the same
---   some_phrase    and some answer there is
+--   one_row       no two rows hold
+--   one_phrased   no second answer, and no second slice
+--   same_phrase   answers that mean the same are the same
+--   some_phrase   and some answer there is
 use Prim.Native.Nat.{ℕ, ◌≤◌}
 use mathlib.Core.List.{List, ◌++◌}
 use mathlib.Core.Logic.{⊎_elim}

@@ -1,11 +1,11 @@
 -- What private functions ask and promise.
 --
---   OneAhead d s r       the list s begins with an item in which at most d branches nest, and r is what stands behind it
---   SomeAhead d k s r    the same of k items, one after another
---   Passes P s at to     what P says of the list s from the place at on ends at the place to; if that is past the end, nothing does
---   halves s             the halves of the even numbers, in order
---   Fits s old n         there are n of them, and the slice old has room for them
---   Fills s old out      stored at the front of the slice old, they leave out
+--   OneAhead d s r      the list s begins with an item in which at most d branches nest, and r is what stands behind it
+--   SomeAhead d k s r   the same of k items, one after another
+--   Passes P s at to    what P says of the list s from the place at on ends at the place to; if that is past the end, nothing does
+--   halves s            the halves of the even numbers, in order
+--   Fits s old n        there are n of them, and the slice old has room for them
+--   Fills s old out     stored at the front of the slice old, they leave out
 use Rattle.std.specs.Prelude.{ℕ, ◌/◌, ◌%◌, ◌≤◌, ◌<◌, List, [], ◌∷◌, ◌++◌, ◌≡◌, ltb, length, drop}
 use Rattle.words.specs.Answer.{pick}
 use Rattle.phrases.specs.Grammar.{Phrase, Phrases, Item, Items}

@@ -1,9 +1,9 @@
 -- What the function of this crate promises.
 --
---   PhraseRow          the row of each refusal, in the order of the tests
---   Phrased            the answer to the list s, with the slice old, and the slice afterwards: as it was, or with the sentences at its front
---   means_read_phrase    what the reader's answer says
---   ReadsPhrase        reading the list s into the slice old answers r and leaves out
+--   PhraseRow           the row of each refusal, in the order of the tests
+--   Phrased             the answer to the list s, with the slice old, and the slice afterwards: as it was, or with the sentences at its front
+--   means_read_phrase   what the reader's answer says
+--   ReadsPhrase         reading the list s into the slice old answers r and leaves out
 use Rattle.std.specs.Prelude.{ℕ, ◌<◌, ◌≤◌, List, ◌++◌, length, drop}
 use Rattle.words.specs.Answer.{Answer, gives, refused, because}
 use Rattle.words.specs.declared.Refusal.{Refusal}

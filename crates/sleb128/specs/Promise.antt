@@ -1,9 +1,9 @@
 -- What the functions of this crate promise.
 --
 --   means_read_i64   what a reader's answer says: the number with its count of bytes, or the refusal's number with its place
---   ReadsI64       reading the bytes from the place at on answers r
---   WritesI64      writing v at the place of s answers r and leaves out
---   LengthI64      the number takes r bytes
+--   ReadsI64         reading the bytes from the place at on answers r
+--   WritesI64        writing v at the place of s answers r and leaves out
+--   LengthI64        the number takes r bytes
 use Rattle.std.specs.Prelude.{ℕ, List, ℤ}
 use Rattle.words.specs.Answer.{Answer, gives, refused, because_at}
 use Rattle.words.specs.Lays.{Lays, Takes}

@@ -3,7 +3,7 @@
 --   DigitsOf v l                   l is the digits of v
 --   decimal_small, decimal_large   the two equations of `decimal`
 --   lays_decimal                   where the fewest digits that hold a number, at least one, are laid down, `decimal` of it is
---   decimal_within_lem                 a number below 10 ^ k has at most k of them
+--   decimal_within_lem             a number below 10 ^ k has at most k of them
 --   three_digits_each              one below 128 ^ k at most 3 * k
 use Prim.Native.Nat.{ℕ, zero, suc, ◌+◌, ◌-◌, ◌*◌, ◌/◌, ◌%◌, ◌^◌, ◌≤◌, ◌<◌}
 use mathlib.Core.Path.{◌≡◌, refl, ap}

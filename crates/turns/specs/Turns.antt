@@ -1,11 +1,11 @@
 -- Document 01, mended by document 02, #101: what a turn means under a thread code.
 --
 --   turn_of v                   on a right-hand thread above zero is Tighten, below zero is Loosen, zero is Hold
---   swapped turn               on a left-hand thread the two names change places; Hold stays
+--   swapped turn                on a left-hand thread the two names change places; Hold stays
 --   by_thread code right left   0 is right, 1 is left, any other code is refused as 9
 --   turn_under code v           what a turn means under a thread code
 --   means_meaning               what the answer of `means` says
---   Means v code r             what `means` promises
+--   Means v code r              what `means` promises
 use Rattle.std.specs.Prelude.{ℕ, zero, suc, ◌≡◌, ℤ, pos, negsuc}
 use Rattle.words.specs.Answer.{Answer, gives, refused, by, because}
 use Rattle.turns.specs.declared.Turn.{Turn}

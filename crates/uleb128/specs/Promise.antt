@@ -1,10 +1,10 @@
 -- What the functions of this crate promise.
 --
---   WritesU64, WritesU32         writing v at the place of s answers r and leaves out
---   LengthU64, LengthU32         the number takes r bytes
+--   WritesU64, WritesU32             writing v at the place of s answers r and leaves out
+--   LengthU64, LengthU32             the number takes r bytes
 --   means_read_u64, means_read_u32   what a reader's answer says: the number with its count of bytes, or the refusal's number with its place
---   Reads64 w                    reading at the width w, of at most 64 bits, from the place at on answers r
---   ReadsU64, ReadsU32           the same at the two widths
+--   Reads64 w                        reading at the width w, of at most 64 bits, from the place at on answers r
+--   ReadsU64, ReadsU32               the same at the two widths
 use Rattle.std.specs.Prelude.{ℕ, List}
 use Rattle.words.specs.Lays.{Lays, Takes}
 use Rattle.words.specs.Answer.{Answer, gives, refused, because_at}

@@ -1,6 +1,6 @@
 -- What the functions inside the crate ask and promise, over the bytes that are left.
 --
---   byte_ahead b p a           the answer a with the byte b of 128 or more in front: no number is 0 behind another byte; p is the place where a number
+--   byte_ahead b p a          the answer a with the byte b of 128 or more in front: no number is 0 behind another byte; p is the place where a number
 --                             in a begins, and so of a 0's only byte
 --   Joins a                   a number that leaves room for seven bits more, or a refusal
 --   WritesRest v s at r out   the form of v is stored from the place of s on, r bytes, and leaves out

@@ -1,7 +1,7 @@
 -- No two refusals share a number. The variants' numbers rise as they stand in the enum, which one test says of them all: no proof goes by
 -- cases over the refusals, and a new one needs no clause here.
 --
---   refusal_of      the refusal of a number
+--   refusal_of     the refusal of a number
 --   refusal_back   a refusal's number leads back to it
 --   same_refusal   so no two refusals share a number
 use Prim.Native.Nat.{ℕ, suc, ◌≤◌}

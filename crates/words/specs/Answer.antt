@@ -1,13 +1,13 @@
 -- What is answered, in document 01's own numbers and values.
 --
---   pick           one of two things, by a test
---   both           two tests hold
---   either         one of two tests holds
---   Why            what a refusal carries: its number; or its number and the place of the byte that decided it
+--   pick            one of two things, by a test
+--   both            two tests hold
+--   either          one of two tests holds
+--   Why             what a refusal carries: its number; or its number and the place of the byte that decided it
 --   number_in       that number
---   because        what a refusal without a place carries; `because_at`: one with a place
---   Answer A       what was asked for, or a refusal with what it carries
---   moved n a      the answer a, its place counted from n bytes further in front; `moved_why`: what a refusal carries
+--   because         what a refusal without a place carries; `because_at`: one with a place
+--   Answer A        what was asked for, or a refusal with what it carries
+--   moved n a       the answer a, its place counted from n bytes further in front; `moved_why`: what a refusal carries
 --   means_written   what a writer's answer says
 use Rattle.std.specs.Prelude.{ℕ, ◌+◌, Bool, true, false}
 use Rattle.words.specs.Refusal.{number_of}

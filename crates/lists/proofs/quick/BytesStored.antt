@@ -1,8 +1,8 @@
 -- Sixteen bytes stored as numbers, from two times eight.
 --
---   few_stored          at most k of k bytes are below 128
---   some_of_eight       where not all of the first eight are below 128, they tell how many of the sixteen are,
---   all_of_eight        and where they are, the second eight tell it
+--   few_stored      at most k of k bytes are below 128
+--   some_of_eight   where not all of the first eight are below 128, they tell how many of the sixteen are,
+--   all_of_eight    and where they are, the second eight tell it
 use Prim.Native.Nat.{ℕ, ◌+◌, ◌≤◌, ◌<◌}
 use mathlib.Core.Path.{◌≡◌, sym, ◌∙◌}
 use mathlib.Core.List.{List, ◌++◌}

@@ -1,16 +1,16 @@
 -- What is done to a number byte by byte.
 --
---   repeats n c                     c, n times
---   length_each                     what f makes of each element is as many
---   below_each                      what f makes of each element is below k, where f is
---   below_bytes                     the first n of some bytes are below 256
---   below_spread, length_spread     so are the bytes of a number, and there are as many as asked for
---   little_spread, spread_little    a number from its bytes, and bytes from their number
---   spread_each                     the bytes of the number that f makes, byte by byte, are what f makes of each byte
---   masked                          a number anded with the same digit at n places is each of its first n digits anded with it
---   low_bytes_lem, top_bytes            so the two masks of a word leave the seven bits, and the high bit, of each byte
---   two_tops                        and that of two bytes the high bits of the first two
---   marks_and_tops                  the high bits turned over are what the high bits lack of 128 at each byte
+--   repeats n c                    c, n times
+--   length_each                    what f makes of each element is as many
+--   below_each                     what f makes of each element is below k, where f is
+--   below_bytes                    the first n of some bytes are below 256
+--   below_spread, length_spread    so are the bytes of a number, and there are as many as asked for
+--   little_spread, spread_little   a number from its bytes, and bytes from their number
+--   spread_each                    the bytes of the number that f makes, byte by byte, are what f makes of each byte
+--   masked                         a number anded with the same digit at n places is each of its first n digits anded with it
+--   low_bytes_lem, top_bytes       so the two masks of a word leave the seven bits, and the high bit, of each byte
+--   two_tops                       and that of two bytes the high bits of the first two
+--   marks_and_tops                 the high bits turned over are what the high bits lack of 128 at each byte
 use Prim.Native.Nat.{ℕ, zero, suc, ◌+◌, ◌*◌, ◌/◌, ◌%◌, ◌^◌, ◌<◌}
 use mathlib.Core.Path.{◌≡◌, refl, ap, ◌∙◌}
 use mathlib.Core.List.{List, [], ◌∷◌}

@@ -1,6 +1,6 @@
 -- Where each byte of a number is 0 or 128, the zeros at its low end tell how many bytes stand before the first that is 128.
 --
---   first_flag    an eighth of those zeros, rounded down, is how many such bytes there are: 8 where all are 0
+--   first_flag   an eighth of those zeros, rounded down, is how many such bytes there are: 8 where all are 0
 use Prim.Native.Nat.{ℕ, zero, suc, ◌+◌, ◌*◌, ◌/◌, ◌%◌, ◌^◌, ◌≤◌, ◌<◌}
 use mathlib.Core.Path.{◌≡◌, ap, ◌∙◌}
 use mathlib.Core.List.{List, [], ◌∷◌}

@@ -1,14 +1,14 @@
 -- The loop that fills two streams: what it holds, and what holds inside a turn.
 --
---   Filling ..       both streams are there, one behind the other; stored, what is left of them completes what was asked
---   filling_begins   at first
---   filling_ends     when the last few of both are stored, all is
---   Turn k ..        both streams have k numbers left or more, and so k bytes
---   turn_begins      where the loop goes on, 17
---   turn_numbers     when a number of each was read and stored, 16
---   turn_stored      both in one, from where the loop goes on
+--   Filling ..                  both streams are there, one behind the other; stored, what is left of them completes what was asked
+--   filling_begins              at first
+--   filling_ends                when the last few of both are stored, all is
+--   Turn k ..                   both streams have k numbers left or more, and so k bytes
+--   turn_begins                 where the loop goes on, 17
+--   turn_numbers                when a number of each was read and stored, 16
+--   turn_stored                 both in one, from where the loop goes on
 --   ready_first, ready_second   each stream is then ready for a step, the second also when the first has made its own
---   turn_ends        after both steps the loop holds what it held, with no fewer numbers stored
+--   turn_ends                   after both steps the loop holds what it held, with no fewer numbers stored
 use Prim.Native.Nat.{ℕ, ◌+◌, ◌-◌, ◌≤◌, ◌<◌}
 use mathlib.Core.Path.{◌≡◌, refl, sym, ◌∙◌}
 use mathlib.Core.List.{List, []}

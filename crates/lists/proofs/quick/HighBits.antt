@@ -1,10 +1,10 @@
 -- The high bits of the bytes of a word, and what the zeros in front of them count.
 --
---   Tells f count                  f makes 0 or 128 of a byte, and count is how many bytes that it makes 0 of stand at the front
---   marks_tell, tops_tell          so marks tell the run, and high bits the bytes below 128
---   tells_flags                    where m is what f makes of the bytes of w, each of its bytes is 0 or 128,
---   tells_count                    and the zeros at its front are those that count counts
---   no_marks, some_mark            a word without a mark has eight bytes of 128 or more, and one with a mark fewer at the front
+--   Tells f count           f makes 0 or 128 of a byte, and count is how many bytes that it makes 0 of stand at the front
+--   marks_tell, tops_tell   so marks tell the run, and high bits the bytes below 128
+--   tells_flags             where m is what f makes of the bytes of w, each of its bytes is 0 or 128,
+--   tells_count             and the zeros at its front are those that count counts
+--   no_marks, some_mark     a word without a mark has eight bytes of 128 or more, and one with a mark fewer at the front
 use Prim.Native.Nat.{ℕ, zero, suc, ◌≤◌, ◌<◌}
 use mathlib.Core.Path.{◌≡◌, refl, ap, sym, ◌∙◌}
 use mathlib.Core.List.{List, [], ◌∷◌}

@@ -1,8 +1,8 @@
 -- What eight bytes taken at once say of a reading of 64 bits that gives a number.
 --
---   word_bytes        the word loaded from a place has the eight bytes there
---   once_short        a number found in the word is the one that is read,
---   once_long         and so is one of nine or ten bytes
+--   word_bytes   the word loaded from a place has the eight bytes there
+--   once_short   a number found in the word is the one that is read,
+--   once_long    and so is one of nine or ten bytes
 use Prim.Native.Nat.{ℕ, zero, suc, ◌+◌, ◌≤◌, ◌<◌, min}
 use mathlib.Core.Path.{◌≡◌, ap, ap₂, sym, ◌∙◌}
 use mathlib.Core.List.{List, [], ◌∷◌}

@@ -1,12 +1,12 @@
 -- The number that stands in a word, from the digits of its eight bytes.
 --
---   lows_below, lows_digits           the seven bits of each byte of a word are below 128, and their digits are those of the word
---   digits_eight                      the digits of eight bytes are below 128 to the 8
---   weight_some                       the weight that `short` shifts to its place is not 0
---   found_short                       the remainder by the weight is the number of the bytes through the first below 128
---   found_two                         so are the digits of two bytes, where the second is the first below 128
---   run_one                           which the mask for two bytes tells
---   longest_nine, longest_ten         the ninth byte added as a digit, and a tenth that is 1
+--   lows_below, lows_digits     the seven bits of each byte of a word are below 128, and their digits are those of the word
+--   digits_eight                the digits of eight bytes are below 128 to the 8
+--   weight_some                 the weight that `short` shifts to its place is not 0
+--   found_short                 the remainder by the weight is the number of the bytes through the first below 128
+--   found_two                   so are the digits of two bytes, where the second is the first below 128
+--   run_one                     which the mask for two bytes tells
+--   longest_nine, longest_ten   the ninth byte added as a digit, and a tenth that is 1
 use Prim.Native.Nat.{ℕ, zero, suc, ◌+◌, ◌*◌, ◌/◌, ◌%◌, ◌^◌, ◌≤◌, ◌<◌}
 use mathlib.Core.Path.{◌≡◌, refl, ap, ◌∙◌}
 use mathlib.Core.List.{List, [], ◌∷◌}

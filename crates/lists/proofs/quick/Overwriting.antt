@@ -1,7 +1,7 @@
 -- Stores one over another, and apart.
 --
---   sets_apart        stores that don't meet may go in either order
---   sets_gone_on      stores that go on behind others, over what those stored too much, are all the stores at once
+--   sets_apart     stores that don't meet may go in either order
+--   sets_gone_on   stores that go on behind others, over what those stored too much, are all the stores at once
 use Prim.Native.Nat.{ℕ, suc, ◌+◌, ◌≤◌, ◌<◌}
 use mathlib.Core.Path.{◌≡◌, refl, ap, sym, ◌∙◌}
 use mathlib.Core.List.{List, [], ◌∷◌, ◌++◌}

@@ -2,8 +2,8 @@
 --
 --   twos d g                        the pairs of neighbours in g, each as one number in the base d
 --   seconds g                       every second element of g
---   pair_up e b mask w               a step of `join`: the second digits in the base b, found by the mask, taken off e times
---   by_pairs, by_fours, by_eights      its three steps; the last has one pair, and so no mask
+--   pair_up e b mask w              a step of `join`: the second digits in the base b, found by the mask, taken off e times
+--   by_pairs, by_fours, by_eights   its three steps; the last has one pair, and so no mask
 --   paired_up                       where the digits are small enough, a step leaves the pairs, for any base and any smaller one
 --   joined_digits                   the three steps, from eight bytes below 128 to the number that they are the digits of
 use Prim.Native.Nat.{ℕ, suc, ◌+◌, ◌-◌, ◌*◌, ◌/◌, ◌%◌, ◌^◌, ◌≤◌, ◌<◌}

@@ -1,10 +1,10 @@
 -- What a step takes of the numbers left, and what it stores.
 --
---   ready_room     where a step is ready, sixteen bytes and room for sixteen numbers are there,
---   small_room     and so for as many small numbers as sixteen stores found
---   step_one       a step of one number, read and stored
---   step_none      a step of none
---   step_small     a step of the small numbers at the front, of sixteen bytes stored
+--   ready_room   where a step is ready, sixteen bytes and room for sixteen numbers are there,
+--   small_room   and so for as many small numbers as sixteen stores found
+--   step_one     a step of one number, read and stored
+--   step_none    a step of none
+--   step_small   a step of the small numbers at the front, of sixteen bytes stored
 use Prim.Native.Nat.{ℕ, zero, suc, ◌+◌, ◌≤◌, ◌<◌}
 use mathlib.Core.Path.{◌≡◌, refl, ap, sym, ◌∙◌}
 use mathlib.Core.List.{List, [], ◌∷◌, ◌++◌}

@@ -1,8 +1,8 @@
 -- Bytes of a block from two parts of as many: as one number, and stored as numbers.
 --
---   two_parts     both, in one list
---   both_words    the numbers of two parts, the second shifted behind the first and ored to it, are the number of both
---   both_stored   what stores a part, and the other behind it, stores both
+--   two_parts              both, in one list
+--   both_words             the numbers of two parts, the second shifted behind the first and ored to it, are the number of both
+--   both_stored            what stores a part, and the other behind it, stores both
 --   two_word, two_stored   so it is with two bytes, each of which is a part
 use Prim.Native.Nat.{ℕ, ◌+◌, ◌*◌, ◌%◌, ◌^◌, ◌≤◌, ◌<◌}
 use mathlib.Core.Path.{◌≡◌, refl, ap, sym, ◌∙◌}

@@ -1,0 +1,42 @@
+-- `entries::read_entry` meets its promise: a law of `EntryReturns` for each answer.
+use Rattle.std.proofs.Common.{rules, ◌+◌, arith, length-drop}
+use Rattle.entries.proofs.NextMarks.{mark_inside, next_is, told_yes, told_no}
+use Rattle.entries.proofs.EntryReturns.{heard_numbers, heard_fault, block_too_long, place_past, none_ahead, entry_good, entry_faulty, entry_longer}
+use Rattle.entries.proofs.reading.read_entry.Goals as goal
+use Rattle.entries.proofs.reading.read_entry.Goals.{in-Numbers+else-whole, in-Fault}
+
+pub returns-then-block-gt-BLOCK_LIMIT : goal.returns-then-block-gt-BLOCK_LIMIT
+returns-then-block-gt-BLOCK_LIMIT c = block_too_long c.if-block-gt-BLOCK_LIMIT.true
+
+pub returns-then-block-from : goal.returns-then-block-from
+returns-then-block-from c = place_past c.if-block-gt-BLOCK_LIMIT.false c.if-block-from.true
+
+pub returns-then-block-at : goal.returns-then-block-at
+returns-then-block-at c = none_ahead (search rules) c.next_mark-at.ensures (search rules) c.if-block-at.true
+
+pub slice_bounds-hear-count : goal.slice_bounds-hear-count
+slice_bounds-hear-count c = mark_inside (next_is c.next_mark-at.ensures c.if-block-at.false)
+
+pub slice_bounds-hear-start : goal.slice_bounds-hear-start
+slice_bounds-hear-start c = mark_inside (next_is c.next_mark-at.ensures c.if-block-at.false)
+
+pub ends-whole-requires : goal.ends-whole-requires
+ends-whole-requires c =
+    let h = heard_numbers c.args.block.now (c.next_mark-at.result + 2) c.in-Numbers.is c.hear.ensures in
+    omega (arith, h.0, mark_inside (next_is c.next_mark-at.ensures c.if-block-at.false), length-drop (c.next_mark-at.result + 2) c.args.block.now)
+
+pub returns-then-whole : goal.returns-then-whole
+returns-then-whole c =
+    let h = heard_numbers c.args.block.now (c.next_mark-at.result + 2) c.in-Numbers.is c.hear.ensures in
+    entry_good (search rules) c.next_mark-at.ensures c.if-block-at.false h.0 h.1 (told_yes c.ends-whole.ensures c.if-whole.true)
+
+pub returns : goal.returns
+returns c =
+    elim c.match-hear.branch [
+      | in-Numbers+else-whole w ↦
+          let h = heard_numbers c.args.block.now (c.next_mark-at.result + 2) w.in-Numbers.is c.hear.ensures in
+          entry_longer (search rules) c.next_mark-at.ensures c.if-block-at.false c.next_mark-end.ensures h.0 h.1 (told_no w.ends-whole.ensures w.if-whole.false)
+      | in-Fault w ↦
+          entry_faulty (search rules) c.next_mark-at.ensures c.if-block-at.false c.next_mark-end.ensures
+          (heard_fault c.args.block.now (c.next_mark-at.result + 2) w.in-Fault.is c.hear.ensures)
+    ]
