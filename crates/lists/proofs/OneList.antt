@@ -3,7 +3,6 @@
 --   same_list   answers that mean the same are the same
 use Prim.Native.Nat.{ℕ}
 use mathlib.Core.Path.{◌≡◌, refl}
-use native.Mathlib.Omega.{arith}
 use Rattle.words.specs.Answer.{Answer, gives, refused, by, by_at}
 use Rattle.words.proofs.OneNumber.{refusal_of, refusal_back}
 use Rattle.words.proofs.OneMeaning.{same_by}

@@ -1,5 +1,5 @@
 -- `lists::put` keeps what it promises inside the crate: each turn and each way out is a law of `LayLoop`.
-use Rattle.std.proofs.Common.{◌+◌, ◌<◌, length, arith, rules, add_assoc}
+use Rattle.std.proofs.Common.{arith, rules, add_assoc}
 use Rattle.words.proofs.LaysInParts.{rest_fits}
 use Rattle.uleb128.proofs.Forms.{form_some}
 use Rattle.lists.proofs.LayLoop.{byte_put, last_put, ninth_put}
