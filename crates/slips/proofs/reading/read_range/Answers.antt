@@ -17,7 +17,8 @@ float_from_bits-highest c = good_number torque _ (highest_good _ _ (sym c.if-goo
 pub returns-then-good_range : goal.returns-then-good_range
 returns-then-good_range c =
     let g = sym c.if-good_range.ensures in
-    judged_good _ g (rw (good_back torque _ (lowest_good _ _ g), good_back torque _ (highest_good _ _ g))) (of_bits-fits binary32 _, of_bits-fits binary32 _) refl
+    judged_good _ g (rw (good_back torque _ (lowest_good _ _ g), good_back torque _ (highest_good _ _ g)))
+    (of_bits-fits binary32 _, of_bits-fits binary32 _) refl
 
 pub returns : goal.returns
 returns c = judged_bad (sym c.if-good_range.ensures)
