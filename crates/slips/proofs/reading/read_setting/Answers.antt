@@ -34,6 +34,10 @@ returns-else-left-lt4-2 c =
     slip_judged _ _ c.if-bytes-at-2.false c.in-2.is (omega arith) c.if-left-lt4-2.false (ap (λ (w : ℕ). w ∷ []) c.word_at-bits-in-2.ensures)
     c.read_angle.ensures
 
+-- the test for eight bytes behind the kind leaves room for both words
+pub word_at-high-requires : goal.word_at-high-requires
+word_at-high-requires c = omega arith
+
 pub returns-else-left-lt8 : goal.returns-else-left-lt8
 returns-else-left-lt8 c =
     slip_range _ _ c.if-bytes-at-2.false c.in-3.is c.if-left-lt8.false c.word_at-low.ensures c.word_at-high.ensures c.read_range.ensures
