@@ -1,0 +1,11 @@
+-- `slips::lay_one` keeps what it promises inside the crate.
+use Rattle.std.proofs.Common.{refl}
+use Rattle.words.proofs.Lays.{room_there, room_refused}
+use Rattle.slips.proofs.Stored.{one_laid}
+use Rattle.slips.proofs.writing.lay_one.Goals as goal
+
+pub returns-then-has_room : goal.returns-then-has_room
+returns-then-has_room c = one_laid _ _ _ (room_there c.has_room.ensures c.if-has_room.true) c.lay_word.ensures
+
+pub returns : goal.returns
+returns c = room_refused _ _ _ c.has_room.ensures refl c.if-has_room.false

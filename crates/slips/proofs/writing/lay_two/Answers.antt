@@ -1,0 +1,12 @@
+-- `slips::lay_two` keeps what it promises inside the crate.
+use Rattle.std.proofs.Common.{refl}
+use Rattle.words.proofs.Lays.{room_there, room_refused}
+use Rattle.slips.proofs.Stored.{two_laid}
+use Rattle.slips.proofs.writing.lay_two.Goals as goal
+
+pub returns-then-has_room : goal.returns-then-has_room
+returns-then-has_room c =
+    two_laid _ _ _ (room_there c.has_room.ensures c.if-has_room.true) c.lay_word.ensures c.lay_word-then-has_room.ensures
+
+pub returns : goal.returns
+returns c = room_refused _ _ _ c.has_room.ensures refl c.if-has_room.false
