@@ -1,12 +1,12 @@
 -- Good words as bits: what the test says, how the code tests it, and that such bits come back as they went.
 --
---   GoodParts m w             32 bits, not minus zero, not below zero, and below an infinity's without the sign
---   good_parts, parts_good    the test holds exactly where these do
+--   GoodParts m w                             32 bits, not minus zero, not below zero, and below an infinity's without the sign
+--   good_parts, parts_good                    the test holds exactly where these do
 --   minus_zero_bad, angle_good, torque_good   the tests of an angle and of a torque, as the code makes them
---   infinite_number           bits up to an infinity's are no not-a-number's; `good_number`: good bits are none
---   good_back                 good bits come back as they went
---   itself_number             what doesn't differ from itself is a number,
---   not_itself_bits           and the bits of what does are those that stand for every not-a-number
+--   infinite_number                           bits up to an infinity's are no not-a-number's; `good_number`: good bits are none
+--   good_back                                 good bits come back as they went
+--   itself_number                             what doesn't differ from itself is a number,
+--   not_itself_bits                           and the bits of what does are those that stand for every not-a-number
 use Prim.Native.Nat.{ℕ, ◌%◌, ◌≤◌, ◌<◌}
 use mathlib.Core.Bool.{true, false, not}
 use mathlib.Core.Path.{◌≡◌, refl, sym, subst}

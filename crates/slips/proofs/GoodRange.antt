@@ -1,10 +1,10 @@
 -- Good words of a body of one measure, and of a range: the test of the body from those of its words.
 --
---   nothing_good                      a body of no measure is good
---   alone                             a body of one measure is good exactly where its word is
---   range_above, range_in_order       a range of two good torques, the lowest above the highest, and not
---   lowest_bad, highest_bad           and one with a torque that is not good
---   lowest_good, highest_good         both torques of a good range are good
+--   nothing_good                  a body of no measure is good
+--   alone                         a body of one measure is good exactly where its word is
+--   range_above, range_in_order   a range of two good torques, the lowest above the highest, and not
+--   lowest_bad, highest_bad       and one with a torque that is not good
+--   lowest_good, highest_good     both torques of a good range are good
 use Prim.Native.Nat.{ℕ}
 use mathlib.Core.Bool.{true, false, not}
 use mathlib.Core.List.{[], ◌∷◌}

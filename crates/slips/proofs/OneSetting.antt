@@ -1,6 +1,6 @@
 -- A setting is determined by its kind and its words, and an answer of the reader by what it means.
 --
---   setting_of v    the setting that means a kind and its words
+--   setting_of v   the setting that means a kind and its words
 --   setting_back   it means them where they are good,
 --   setting_f32    and its floats are f32s
 --   same_read      answers of f32s that mean the same are the same

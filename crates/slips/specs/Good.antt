@@ -1,13 +1,13 @@
 -- Document 02, #104: when the words of a body are good. A word is the 32 bits of an f32: the highest is the sign's, and below it those of an infinity are
 -- 255 · 2^23, and those of a not-a-number above that.
 --
---   Measure           what a word measures: a torque in newton metres, or an angle in degrees
---   sign_bit           the sign's bit alone, which is minus zero; `infinity`: the bits of an infinity
---   is_below_zero m w     a torque whose sign's bit is set
---   good_word m w      32 bits, not minus zero, no torque below zero, and neither an infinity nor a not-a-number
---   good_words ms ws   there is a word for each measure, and each is good
---   is_in_order ws        no word's float is above that of the next
---   good ms ws        both
+--   Measure             what a word measures: a torque in newton metres, or an angle in degrees
+--   sign_bit            the sign's bit alone, which is minus zero; `infinity`: the bits of an infinity
+--   is_below_zero m w   a torque whose sign's bit is set
+--   good_word m w       32 bits, not minus zero, no torque below zero, and neither an infinity nor a not-a-number
+--   good_words ms ws    there is a word for each measure, and each is good
+--   is_in_order ws      no word's float is above that of the next
+--   good ms ws          both
 use Rattle.std.specs.Prelude.{ℕ, ◌*◌, ◌%◌, ◌^◌, Bool, true, false, not, List, [], ◌∷◌, leb, ltb, eqb}
 use Rattle.std.specs.Float.{binary32}
 use Rattle.std.specs.Float.Ieee.{of_bits, lt}

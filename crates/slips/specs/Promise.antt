@@ -1,12 +1,12 @@
 -- What the functions of this crate promise.
 --
---   means_setting       the kind and the bits of a setting
---   F32                its floats are f32s, as those of any setting that a program holds are: a number that fits f32 is written in one way
+--   means_setting        the kind and the bits of a setting
+--   F32                  its floats are f32s, as those of any setting that a program holds are: a number that fits f32 is written in one way
 --   means_read_setting   what the reader's answer says; `OfF32`: its floats are f32s
---   ReadsSetting       reading the setting at the place of s answers r
---   WritesSetting      writing the setting v at the place of s answers r and leaves out: 11 unless it is good, then 5
---   Within t range     the torque t is neither under the lowest nor over the highest, and none of the three is a not-a-number
---   LiesInRange        whether t lies in the range is answered by r
+--   ReadsSetting         reading the setting at the place of s answers r
+--   WritesSetting        writing the setting v at the place of s answers r and leaves out: 11 unless it is good, then 5
+--   Within t range       the torque t is neither under the lowest nor over the highest, and none of the three is a not-a-number
+--   LiesInRange          whether t lies in the range is answered by r
 use Rattle.std.specs.Prelude.{ℕ, Bool, true, false, List, [], ◌∷◌, ◌↔◌, ◌≡◌, T, Float, length}
 use Rattle.std.specs.Float.{nan, binary32}
 use Rattle.std.specs.Float.Ieee.{to_bits, lt, fits}

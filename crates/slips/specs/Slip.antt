@@ -1,17 +1,17 @@
 -- Document 02, #104: what a slip is, "one byte of kind, then a body whose length the kind fixes". What the body of a kind measures is a list, and all
 -- else is said over that list. A setting means its kind and its words, which are the bits of its floats.
 --
---   kinds             what the body of each kind measures, from kind 0 on; `measures k`: what that of kind k does
---   spread n w        the n low bytes of w, lowest first
---   body ws           the bytes of a body, four for each word; `body_length ms`: how many they are
---   form v            the slip of the setting v: its kind, and its body
---   good_setting v     v has a kind that there is, and its words are good
---   little l          the number whose bytes are l, lowest first
---   words ms l        the words at the front of l, one for each measure
---   judged k ms ws    the answer to a setting of kind k with these words: itself and the length of its slip, or 11
---   bodied k ms l     the answer to a body of kind k at the front of l: a short one is 1
---   slip l            the answer to a slip at the front of l: no byte is 1, a kind that there isn't 11
---   slip_at s at       the answer to a slip at the place at of s: past the end is 4
+--   kinds            what the body of each kind measures, from kind 0 on; `measures k`: what that of kind k does
+--   spread n w       the n low bytes of w, lowest first
+--   body ws          the bytes of a body, four for each word; `body_length ms`: how many they are
+--   form v           the slip of the setting v: its kind, and its body
+--   good_setting v   v has a kind that there is, and its words are good
+--   little l         the number whose bytes are l, lowest first
+--   words ms l       the words at the front of l, one for each measure
+--   judged k ms ws   the answer to a setting of kind k with these words: itself and the length of its slip, or 11
+--   bodied k ms l    the answer to a body of kind k at the front of l: a short one is 1
+--   slip l           the answer to a slip at the front of l: no byte is 1, a kind that there isn't 11
+--   slip_at s at     the answer to a slip at the place at of s: past the end is 4
 use Rattle.std.specs.Prelude.{ℕ, zero, suc, ◌+◌, ◌*◌, ◌/◌, ◌%◌, Bool, List, [], ◌∷◌, ◌++◌, leb, ltb, length, get_or, take, drop}
 use Rattle.words.specs.Answer.{pick, both, Answer, gives, refused, by}
 use Rattle.slips.specs.Good.{Measure, torque, angle, good}
