@@ -8,6 +8,8 @@
 #   follow     as beside, and gives each line that the command says on standard error to a function
 #   find_kit   finds the Rattle toolchain: $kit, $version, and $under, the words before a program that it has built
 #   build      proves and builds programs, shows how far that is, and takes them
+#   sum_of     the sum of all that a program is made from
+#   mark       notes what a program that lies in its out/ was made from
 #   take       copies programs that are built to $room/own
 #   run        becomes a program that was taken
 #   try_list   becomes the oracle, which runs the program `list` on few or many inputs
@@ -87,93 +89,113 @@ find_kit() {
     processor=$(uname -m)
     version=$(rt version 2>/dev/null) || version=''
     kit=${RATTLE_HOME:-$(dirname "$(dirname "$(readlink -f "$found")")")}
+    # Our programs are for x86-64. A kit for several processors has a folder for each, and a loader and maybe an emulator there;
+    # rt of such a kit doesn't tell its version where it has nothing for this one.
     local tools=$kit/on/$processor/toolchain
     local loader=$tools/lib/ld-linux-x86-64.so.2
-    # rt of a kit that has nothing for this processor doesn't tell its version either.
-    if [ ! -e "$loader" ] && { [ -d "$kit/on" ] || [[ $version = rattle-kit-* ]]; }; then
+    if if [ -d "$kit/on" ]; then [ ! -e "$loader" ]; else [ "$processor" != x86_64 ] && [[ $version = rattle-kit-* ]]; fi; then
         stop 1 "the Rattle toolchain in $kit has nothing for this processor, $processor"
     fi
     if [[ $version != rattle-kit-* ]]; then
         stop 1 "$found isn't the Rattle toolchain's rt: 'rt version' doesn't begin with rattle-kit- $readme"
     fi
-    under=("$loader" --library-path "$tools/lib")
-    # Our programs are for x86-64; for another processor the kit has an emulator.
+    under=()
+    if [ -e "$loader" ]; then under=("$loader" --library-path "$tools/lib"); fi
     if [ -x "$tools/bin/qemu-x86_64" ]; then under=("$tools/bin/qemu-x86_64" "${under[@]}"); fi
     if [ "$(id -u)" = 0 ]; then
         under=(setpriv --reuid=65534 --regid=65534 --clear-groups --no-new-privs "${under[@]}")
     fi
 }
 
-# The crates that some need, and those themselves, a line for each.
+# The crates that some need and those themselves, lowest first, a line for each.
 needed() { # CRATE...
     awk -v wanted="$*" '
         function visit(crate,    list, count, i) {
             if (!(crate in uses) || crate in seen) return
             seen[crate]
-            print crate
             count = split(uses[crate], list, " ")
             for (i = 1; i <= count; i++) visit(list[i])
+            print crate
         }
         { sub(/#.*/, "") }
         split($0, part, ":") == 2 { gsub(/[ \t]/, "", part[1]); uses[part[1]] = part[2] }
         END { count = split(wanted, first, " "); for (i = 1; i <= count; i++) visit(first[i]) }' "$root/crates.txt"
 }
 
-# What rt makes of a crate.
-made_of() { # CRATE
-    if [ -e "$root/crates/$1/src/main.rt" ]; then echo "$root/target/bin/$1"; else echo "$root/target/rlib/$1.rlib"; fi
+# The sum of all that a program is made from: the kit, and the crates that it needs.
+sum_of() { # PROGRAM
+    local crate
+    {
+        echo "$version"
+        cat "$root/crates.txt"
+        for crate in $(needed "$1"); do
+            (cd "$root/crates/$crate" && find . -path ./out -prune -o -name '*.rt' -type f -print0 -o -name '*.antt' -type f -print0 | LC_ALL=C sort -z | xargs -0r sha256sum)
+        done
+    } | sha256sum
 }
 
-# A line of what rt says. What is up to date is counted and not shown.
+# Notes that the program in its crate's out/ was proved, and made from what has this sum.
+mark() { # PROGRAM SUM
+    echo "$2 $(sha256sum <"$root/crates/$1/out/$1")" >"$root/crates/$1/out/$1.made"
+}
+
+# Whether the program in its crate's out/ is one that was proved, of what stands here now.
+is_made() { # PROGRAM
+    local out=$root/crates/$1/out
+    [ -e "$out/$1" ] && [ -e "$out/$1.made" ] && [ "$(cat "$out/$1.made")" = "$(sum_of "$1") $(sha256sum <"$out/$1")" ]
+}
+
+# A line of what rt says. Of the program's crate and those below it is told which is proved, of rt's own words what isn't as it always is.
 show() { # LINE
+    echo "$1" >&5
     case $1 in
-    'rt: '*' proved (unchanged '*) proved=$((proved + 1)) ;;
-    'rt: '*' proved ('*)
-        proved=$((proved + 1))
-        set -- "${1#rt: }"
-        echo "$me: $proved of $crates: ${1%% *} is proved" >&2
+    'crate '*': modules loaded='*)
+        one=${1#crate }
+        one=${one%%:*}
         ;;
-    'rt: ok, '* | 'rt: '*' ran'*) ;;
+    'logic=proved '*) echo "$me: $(printf '%s\n' "${crates[@]}" | grep -nx "$one" | cut -d: -f1) of ${#crates[@]}: $one is proved" >&2 ;;
+    'rt: chose '* | 'rt: '*': begins with what '* | 'rt: nothing has changed '* | 'rt: running '* | 'rt: rt '*) ;;
     'rt: '*) echo "$me: ${1#rt: }" >&2 ;;
     esac
 }
 
-# In a group of its own, with our folder for what it puts down meanwhile: neither outlives us.
-check() { # CRATE...
-    cd "$root" || exit
-    TMPDIR=$room exec setsid rt check "$@" </dev/null 1>&2
+# In a group of its own, with our folder for what it puts down meanwhile: neither outlives us. The program that it ends with has nothing to read.
+run_once() { # PROGRAM
+    cd "$root/crates/$1" || exit
+    TMPDIR=$room exec setsid rt run </dev/null >/dev/null
 }
 
+# Holds a lock until the programs are taken: of two builds at once, the second is to find what the first has made.
 build() { # PROGRAM...
-    mkdir -p "$root/target" 2>/dev/null || true
-    # With a record or a log that it can't write, rt would take the last verdict for today's.
-    if [ -n "$(find "$root/target" -maxdepth 2 ! -writable -print -quit 2>&1)" ]; then
-        stop 1 "programs are built in $root/target, which can't be written"
-    fi
-    prove "$@"
-    take "$@"
-    exec 9>&-
-}
-
-# Holds a lock until the programs are taken: two builds at once would write the same files.
-prove() { # PROGRAM...
-    local crate
-    exec 9>"$root/target/lock"
+    local program
+    exec 9<"$root/crates.txt"
     if ! flock -n 9; then
         echo "$me: waiting for another build to end" >&2
         beside flock 9
     fi
-    # rt doesn't make again what was only removed, unless its record is removed too.
-    for crate in $(needed "$@"); do
-        if [ ! -e "$(made_of "$crate")" ]; then rm -f "$root/target/stamp/$crate"; fi
+    for program in "$@"; do
+        if ! is_made "$program"; then prove "$program"; fi
     done
-    proved=0 crates=$(needed "$@" | wc -l)
-    for crate in "$@"; do
-        if [ -e "$root/target/stamp/$crate" ]; then continue; fi
-        echo "$me: proving and building $*: $crates crates, which takes some minutes from nothing" >&2
-        break
+    take "$@"
+    exec 9<&-
+}
+
+prove() { # PROGRAM
+    local out=$root/crates/$1/out sum crate one
+    mapfile -t crates < <(needed "$1")
+    for crate in "${crates[@]}"; do
+        mkdir -p "$root/crates/$crate/out" 2>/dev/null || true
+        if [ ! -w "$root/crates/$crate/out" ]; then
+            stop 1 "programs are built in the folders out/ below $root/crates, and $crate/out can't be written"
+        fi
     done
-    follow show check "$@" || stop 1 "the build failed, and target/log/ has why$(other_kit)"
+    echo "$me: proving and building $1: ${#crates[@]} crates, which takes some minutes from nothing" >&2
+    sum=$(sum_of "$1")
+    exec 5>"$out/build.log"
+    follow show run_once "$1" || stop 1 "the build failed, and crates/$1/out/build.log has why$(other_kit)"
+    exec 5>&-
+    # What was changed meanwhile may not be in it.
+    if [ "$sum" = "$(sum_of "$1")" ]; then mark "$1" "$sum"; fi
 }
 
 # The kit, if its logic is another than the one that all was last proved with.
@@ -186,8 +208,11 @@ other_kit() {
 }
 
 take() { # PROGRAM...
+    local program
     mkdir -p "$room/own" "$room/data"
-    cp "${@/#/$root/target/bin/}" "$room/own" || stop 1 "$* can't be copied to $room"
+    for program in "$@"; do
+        cp "$root/crates/$program/out/$program" "$room/own" || stop 1 "$program can't be copied to $room"
+    done
     chmod -R go+rX "$room/own"
     if [ "$(id -u)" = 0 ]; then chown 65534:65534 "$room/data"; fi
 }

@@ -15,10 +15,14 @@ def read(path):
 
 # ---- crates
 
-# The crates of crates.txt in their order.
+# The crates of crates.txt in their order, with what each needs.
+def needs_of():
+    lines = (line.partition("#")[0].partition(":") for line in read("crates.txt").split("\n"))
+    return {crate.strip(): needs.split() for crate, colon, needs in lines if colon}
+
+
 def listed_crates():
-    lines = (line.partition("#")[0] for line in read("crates.txt").split("\n"))
-    return [line.partition(":")[0].strip() for line in lines if ":" in line]
+    return list(needs_of())
 
 
 # ---- .rt: functions
