@@ -10,6 +10,7 @@ use words::{Place, Refusal};
 // The entry of the least mark at the place or later, or 10 if it is bad, each with the place where it ends: else 7, 4, or 8 if there is
 // no mark. The place may lie anywhere, in the middle of a group too. No mark stands among numbers that read, so that the end is looked for only
 // where the entry is bad.
+#[tactic(auto, using(crate::proofs::EntryReturns::block_too_long))]
 pub fn read_entry(block: &[u8], place: Place) -> ReadEntry
     ensures { ReadsEntry block.now place.0 result }
 {

@@ -1,15 +1,12 @@
--- `entries::read_entry` meets its promise: a law of `EntryReturns` for each answer.
+-- `entries::read_entry` meets its promise: a law of `EntryReturns` for each answer. The one for a block too long is named on the function.
 use Rattle.std.proofs.Common.{rules, ◌+◌, arith, length-drop}
 use Rattle.entries.proofs.NextMarks.{mark_inside, next_is, told_yes, told_no}
-use Rattle.entries.proofs.EntryReturns.{heard_numbers, heard_fault, block_too_long, place_past, none_ahead, entry_good, entry_faulty, entry_longer}
+use Rattle.entries.proofs.EntryReturns.{heard_numbers, heard_fault, place_past, none_ahead, entry_good, entry_faulty, entry_longer}
 use Rattle.entries.proofs.reading.read_entry.Goals as goal
 use Rattle.entries.proofs.reading.read_entry.Goals.{in-Numbers+else-whole, in-Fault}
 
-pub returns-then-block-gt-BLOCK_LIMIT : goal.returns-then-block-gt-BLOCK_LIMIT
-returns-then-block-gt-BLOCK_LIMIT c = block_too_long c.if-block-gt-BLOCK_LIMIT.true
-
 pub returns-then-block-from : goal.returns-then-block-from
-returns-then-block-from c = place_past c.if-block-gt-BLOCK_LIMIT.false c.if-block-from.true
+returns-then-block-from c = place_past (search rules) c.if-block-from.true
 
 pub returns-then-block-at : goal.returns-then-block-at
 returns-then-block-at c = none_ahead (search rules) c.next_mark-at.ensures (search rules) c.if-block-at.true

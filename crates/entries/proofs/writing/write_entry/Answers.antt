@@ -1,5 +1,5 @@
 -- `entries::write_entry` meets its promise: an absurd turn, no room, or the entry is laid down.
-use Rattle.std.proofs.Common.{◌<◌, ◌^◌, arith}
+use Rattle.std.proofs.Common.{rules, ◌<◌, ◌^◌, arith}
 use Rattle.std.specs.Int.Signed.{mag}
 use Rattle.words.proofs.Lays.{room_refused, room_there}
 use Rattle.words.proofs.LaysInParts.{puts_lays}
@@ -12,12 +12,13 @@ pub returns-then-not-room : goal.returns-then-not-room
 returns-then-not-room c =
     let h : mag c.args.entry.turn < 2 ^ 63 = omega arith in
     let told = rw (word_back _ h) at c.is_absurd-absurd.ensures in
-    sensible_turn (told_no told c.if-absurd.false) (room_refused _ _ _ c.has_room-room.ensures c.entry_length-all.ensures.is c.if-not-room.true)
+    sensible_turn (told_no {t = c.is_absurd-absurd.result} told (search rules))
+    (room_refused _ _ _ c.has_room-room.ensures c.entry_length-all.ensures.is c.if-not-room.true)
 
 pub returns : goal.returns
 returns c =
     let h : mag c.args.entry.turn < 2 ^ 63 = omega arith in
     let told = rw (word_back _ h) at c.is_absurd-absurd.ensures in
     let all = c.entry_length-all.ensures.is in
-    sensible_turn (told_no told c.if-absurd.false)
+    sensible_turn (told_no {t = c.is_absurd-absurd.result} told (search rules))
     (puts_lays _ (omega (arith, room_there c.has_room-room.ensures c.if-not-room.false, all)) all c.put_entry.ensures)
