@@ -1,6 +1,7 @@
 -- What is said on standard error, laid down.
 --
 --   unwritten_note, above_note, no_note, failed_note   the text couldn't be written; the input is above the limit; nothing; the input couldn't be read
+--   note_unwritten, note_above, note_failed            the same by what the code has tested, so that the answers of `lay_note` name no test of its
 use Prim.Native.Nat.{ℕ, ◌≤◌, ◌<◌}
 use mathlib.Core.Path.{◌≡◌, refl}
 use mathlib.Core.Bool.{Bool, true, false, not}
@@ -10,7 +11,7 @@ use borrow.Author.Tests.{lt-ltb, le-ltb}
 use lib.ListN.{length, length-append}
 use Rattle.words.specs.declared.Count.{Count}
 use Rattle.words.proofs.Cases.{clash}
-use Rattle.texts.specs.Texts.{ascii, decimal, LaysText}
+use Rattle.texts.specs.Texts.{ascii, LaysText}
 use Rattle.texts.proofs.Decimals.{decimal_within_lem}
 use Rattle.blocks.specs.Block.{block_limit}
 use Rattle.listing.specs.Program.{limit_note}
@@ -39,7 +40,7 @@ pub no_note : (n : Count) (w : Bool) {before : List ℕ} → not w ≡ false →
 no_note n false e h = clash e refl
 no_note n true e h = rw (le-ltb block_limit n.0 h) (record { count = refl; bytes = refl })
 
--- the same by what the code has tested of the input and of the writing: these close the goals of `lay_note`
+-- by what the code has tested of the input and of the writing
 module _ (i : Input) (w : Bool) {before : List ℕ} where
   pub note_failed : {after : List ℕ} {r : ℕ} → i ≡ I.Failed → length before ≡ 128 → LaysText (ascii "list: the input can't be read\n") before 0 r after
       → LaysNoteOf i w before r after
