@@ -1,7 +1,7 @@
 -- What is said on standard error, laid down.
 --
 --   unwritten_note, above_note, no_note, failed_note   the text couldn't be written; the input is above the limit; nothing; the input couldn't be read
---   note_unwritten, note_above, note_failed            the same by what the code has tested, so that the answers of `lay_note` name no test of its
+--   note_unwritten, note_above, note_failed            the same by what the code has tested, so that the answers of `lay_note` name none of its tests
 use Prim.Native.Nat.{ℕ, ◌≤◌, ◌<◌}
 use mathlib.Core.Path.{◌≡◌, refl}
 use mathlib.Core.Bool.{Bool, true, false, not}
