@@ -1,4 +1,4 @@
--- The source's macros on bytes, under their names, by remainder and sum where it has masks.
+-- The source's macros on bytes, by remainder and sum where it has masks: each under its name with `_lem` behind it, since the function has the name itself.
 --
 --   take_low_7_bits_lem v     the low seven bits of a byte, or of any number
 --   is_high_8_bit_set_lem b   the byte is 128 or more

@@ -1,12 +1,12 @@
 -- An instance for each hypothesis of the claims of entries that `met` does not already give: no claim is empty.
 --
---   in_front    good-form, entry-front: in the block 80 00 01 02 03 80 00 05 the stretch 05 is replaced by nothing
---   behind      entry-back: in the block 05 06 80 00 the stretch 05 is replaced by nothing
---   given       entries-front, entries-back: of each block a reader gives some entries
---   widths      one-form: zeros are of their widths
---   written     written-back: zeros are written into a buffer of five bytes
---   unwritten   refused-unread: zeros with a turn of 401 are refused; `wide`: they are of their widths,
---   beyond      absurd-read: and their form is an entry
+--   in_front    good_form, entry_front: in the block 80 00 01 02 03 80 00 05 the stretch 05 is replaced by nothing
+--   behind      entry_back: in the block 05 06 80 00 the stretch 05 is replaced by nothing
+--   given       entries_front, entries_back: of each block a reader gives some entries
+--   widths      one_form: zeros are of their widths
+--   written     written_back: zeros are written into a buffer of five bytes
+--   unwritten   refused_unread: zeros with a turn of 401 are refused; `wide`: they are of their widths,
+--   beyond      absurd_read: and their form is an entry
 use Prim.Native.Nat.{ℕ, zero, suc, ◌^◌, ◌≤◌, ◌<◌}
 use mathlib.Core.List.{List, [], ◌∷◌, ◌++◌}
 use mathlib.Core.Logic.{inl, inr}

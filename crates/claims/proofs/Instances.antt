@@ -1,14 +1,14 @@
 -- An instance for each hypothesis of the claims that `met` does not already give: no claim is empty. Those of slips are in SlipInstances.antt, those of
 -- phrases in PhraseInstances.antt, those of entries in EntryInstances.antt.
 --
---   written, read-back   write-read, read-write, more-behind, some-byte: zero is written into a buffer of one byte, and read there
+--   written, read_back   write_read, read_write, more_behind, some_byte: zero is written into a buffer of one byte, and read there
 --   one_too_many         decides: the bytes 80 00 are refused by 3, decided by the byte at 1
---   list                 list-back: a list of one number is written
---   group                read-group: a group
---   before, behind       damage-front, damage-back: in the block 05 80 07 03 the stretch 80 is replaced by nothing
---   gap_behind           gap-within, damage-back-gap: in the block 05 80 07 80 00 a gap stands at place 3, decided by its last byte, at place 4
---   old, new             both are blocks, so that damage-front-read and damage-back-read speak of them
---   set_down, lost       reader-set-down, front-lost: at place 1 of 05 06, and of 05 06 07 whose first byte is lost
+--   list                 list_back: a list of one number is written
+--   group                read_group: a group
+--   before, behind       damage_front, damage_back: in the block 05 80 07 03 the stretch 80 is replaced by nothing
+--   gap_behind           gap_within, damage_back_gap: in the block 05 80 07 80 00 a gap stands at place 3, decided by its last byte, at place 4
+--   old, new             both are blocks, so that damage_front_read and damage_back_read speak of them
+--   set_down, lost       reader_set_down, front_lost: at place 1 of 05 06, and of 05 06 07 whose first byte is lost
 --   no_start, no_byte    and where set-down refuses: 05 80 and 05, whose first byte is lost
 use Prim.Native.Nat.{ℕ, zero, suc, ◌+◌, ◌<◌}
 use mathlib.Core.Path.{◌≡◌, refl}

@@ -1,8 +1,8 @@
 -- An instance for each hypothesis of the claims of phrases that `met` does not already give: no claim is empty.
 --
---   two_leaves     one-reading, no-front: the list 5 14 6 is a branch of two leaves
---   two_filled     phrase-leaves: its sentences fill the front of a slice of three
---   none_refused   phrase-leaves: no numbers are refused by 13, and the slice is kept
+--   two_leaves     one_reading, no_front: the list 5 14 6 is a branch of two leaves
+--   two_filled     phrase_leaves: its sentences fill the front of a slice of three
+--   none_refused   phrase_leaves: no numbers are refused by 13, and the slice is kept
 use mathlib.Core.List.{[], ◌∷◌}
 use mathlib.Core.Path.{refl}
 use native.Mathlib.Omega.{arith}

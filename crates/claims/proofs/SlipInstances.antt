@@ -1,12 +1,12 @@
 -- An instance for each hypothesis of the claims of slips that `met` does not already give: no claim is empty.
 --
---   written, one_f32   slip-write-read: a torque of one newton metre, 00 00 80 3f, is written into a buffer of five bytes; it is an f32
---   read-back, bytes   slip-read-write, slip-spelled, slip-behind: and read there
---   good_one           slip-writes, one-slip: it is a good setting
---   minus_bad          slip-writes: a torque of minus zero is none
---   unknown            slip-behind: the kind 4 is refused by 11; what is answered with more bytes behind is given by `met`
---   within             in-range: the torque lies in the range from itself to itself
---   nan_outside        no-number: a not-a-number does not
+--   written, one_f32   slip_write_read: a torque of one newton metre, 00 00 80 3f, is written into a buffer of five bytes; it is an f32
+--   read_back, bytes   slip_read_write, slip_spelled, slip_behind: and read there
+--   good_one           slip_writes, one_slip: it is a good setting
+--   minus_bad          slip_writes: a torque of minus zero is none
+--   unknown            slip_behind: the kind 4 is refused by 11; what is answered with more bytes behind is given by `met`
+--   within             in_range: the torque lies in the range from itself to itself
+--   nan_outside        no_number: a not-a-number does not
 use Prim.Native.Nat.{ℕ, zero, suc}
 use mathlib.Core.Bool.{true, false}
 use mathlib.Core.List.{List, [], ◌∷◌}

@@ -3,13 +3,13 @@
 --   Field              how a field's group is read: its number, or a refusal
 --   fields             the fields of an entry, in their order: segment, sentence, turn
 --   Says fs l vs rest  the bytes l begin with one group for each of the fields fs, in order; each reads, vs are the numbers, and rest stands behind
---   numbers_of x        the numbers of the entry x, in the order of its fields
+--   numbers_of x       the numbers of the entry x, in the order of its fields
 --   Absurd t           the turn t is above 400 or below -400
 --   SaysEntry l x rest the bytes l begin with the numbers of the entry x, whose turn isn't absurd, and rest stands behind
 --   Good l x           the bytes l are those of a good entry, which says x: nothing stands behind its numbers
 --   Verdict            what there is to say of an entry: good, with what it says; or bad
 --   Judged l v         v is the verdict on the bytes l
---   form_of, forms_of    the shortest form of a number, and those of several, one after another
+--   form_of, forms_of  the shortest form of a number, and those of several, one after another
 use Rattle.std.specs.Prelude.{ℕ, ◌≡◌, List, [], ◌∷◌, ◌++◌, ◌⊎◌, ℤ, pos, neg_ℤ, ◌<ℤ◌}
 use Rattle.words.specs.Answer.{Answer, gives}
 use Rattle.groups.specs.Group.{Group}

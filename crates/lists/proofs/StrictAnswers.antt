@@ -5,7 +5,9 @@
 --   slice_full                         one of more numbers than the slice has room for, by 5
 --   slice_fits                         where there is room for as many numbers as the block has, they stand in it one behind another, so many;
 --   slice_filled                       stored from the front of the slice on, they are what strict reading answers and leaves
---   strict_by_count, filled_by_count   what it answers and leaves, by how many numbers the block has, or its first fault
+--   told, listed, stored_or_kept       by how many numbers the block has, or its first fault: what is told where there is room for so many; the numbers,
+--                                      none at a fault; what the slice holds then
+--   strict_by_count, filled_by_count   so it answers and leaves
 use Prim.Native.Nat.{ℕ, ◌≤◌, ◌<◌}
 use mathlib.Core.Path.{◌≡◌, refl, ap, sym, ◌∙◌}
 use mathlib.Core.List.{List, [], ◌++◌}
