@@ -10,13 +10,13 @@ use mathlib.Core.Logic.{⊎_elim}
 use native.Mathlib.Omega.{arith}
 use lib.ListN.{length, take, drop, length-append, length-drop, take-append-drop}
 use lib.Seq.{take-append_seam, get_or-drop}
-use Rattle.words.specs.Answer.{Answer, gives, refused, by_at, because_at, Why, moved_why, moved}
+use Rattle.words.specs.Answer.{Answer, gives, refused, because_at, Why, moved_why, moved}
 use Rattle.words.specs.declared.Refusal.{Refusal}
 use Rattle.words.specs.declared.Refusal.TheVariants.{End}
 use Rattle.words.proofs.Cases.{by_order}
 use Rattle.words.proofs.Moved.{same_place}
 use Rattle.groups.specs.Begins.{Begins}
-use Rattle.groups.specs.Group.{Bytes, High, Group, run}
+use Rattle.groups.specs.Group.{Bytes, Group, run}
 use Rattle.groups.specs.Width.{reading}
 use Rattle.groups.proofs.Exact.{group_length}
 use Rattle.groups.proofs.Run.{run_within, high_full, full_high}

@@ -3,7 +3,7 @@
 --   decided_within   it is one of the bytes of the group that was read
 --   gap_within       so it is with the gap that a step says
 use Prim.Native.Nat.{ℕ, ◌<◌}
-use mathlib.Core.Path.{◌≡◌, sym}
+use mathlib.Core.Path.{◌≡◌}
 use mathlib.Core.List.{List}
 use native.Mathlib.Omega.{arith}
 use lib.ListN.{length}

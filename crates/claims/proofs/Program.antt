@@ -2,7 +2,7 @@
 --
 --   taken    an input is taken whole, in whatever pieces it comes; a read that fails is no end
 --   silent   nothing is said exactly where nothing failed and the input is within the limit
-use Prim.Native.Nat.{ℕ, suc, ◌+◌, ◌≤◌, ◌<◌}
+use Prim.Native.Nat.{ℕ, suc, ◌+◌, ◌<◌}
 use mathlib.Core.Bool.{true, false}
 use mathlib.Core.Path.{◌≡◌, refl, ap}
 use mathlib.Core.List.{List, [], ◌∷◌}

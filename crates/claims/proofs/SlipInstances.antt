@@ -24,7 +24,6 @@ use Rattle.slips.specs.Good.{good_word, good_words, is_in_order, good}
 use Rattle.slips.specs.Slip.{little, judged, bodied, slip, slip_at}
 use Rattle.slips.specs.Promise.{means_setting, F32, ReadsSetting, WritesSetting, Within, LiesInRange}
 use Rattle.slips.specs.declared.Range.{Range}
-use Rattle.slips.specs.declared.Setting.{Setting}
 use Rattle.slips.specs.declared.Setting.TheVariants as S
 use Rattle.slips.specs.declared.ReadSetting.TheVariants as R
 use Rattle.slips.proofs.Lies.{lies_above, lies_under}

@@ -2,7 +2,7 @@
 --
 --   front_enough    the first bytes of an input, more than the limit, have its text
 --   text_document   the text of document 01's 17 bytes, of the mended ones, and of no bytes
-use mathlib.Core.Path.{◌≡◌, refl, ap, sym, ◌∙◌}
+use mathlib.Core.Path.{refl, ap, sym, ◌∙◌}
 use native.Mathlib.Omega.{arith}
 use lib.ListN.{length, take, length-take}
 use lib.Seq.{take_all}

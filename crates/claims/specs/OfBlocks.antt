@@ -26,7 +26,7 @@ use Rattle.blocks.specs.declared.Step.{Step}
 use Rattle.blocks.specs.declared.Step.TheVariants as S
 use Rattle.blocks.specs.declared.Cursor.{Cursor}
 use Rattle.blocks.specs.declared.SetDown.TheVariants as D
-use Rattle.claims.specs.Kinds.{Kind, Value, number, width, form, OfWidth}
+use Rattle.claims.specs.Kinds.{Kind, Value, width, form, OfWidth}
 use Rattle.claims.specs.Table.{GapRow}
 
 -- From a start, a reader gives exactly the groups that begin there or later, in order, each once; every reading ends.
