@@ -93,12 +93,12 @@ find_kit() {
     # rt of such a kit doesn't tell its version where it has nothing for this one.
     local tools=$kit/on/$processor/toolchain
     local loader=$tools/lib/ld-linux-x86-64.so.2
-    if if [ -d "$kit/on" ]; then [ ! -e "$loader" ]; else [ "$processor" != x86_64 ] && [[ $version = rattle-kit-* ]]; fi; then
-        stop 1 "the Rattle toolchain in $kit has nothing for this processor, $processor"
-    fi
+    local nothing="the Rattle toolchain in $kit has nothing for this processor, $processor"
+    if [ -d "$kit/on" ] && [ ! -e "$loader" ]; then stop 1 "$nothing"; fi
     if [[ $version != rattle-kit-* ]]; then
         stop 1 "$found isn't the Rattle toolchain's rt: 'rt version' doesn't begin with rattle-kit- $readme"
     fi
+    if [ ! -e "$loader" ] && [ "$processor" != x86_64 ]; then stop 1 "$nothing"; fi
     under=()
     if [ -e "$loader" ]; then under=("$loader" --library-path "$tools/lib"); fi
     if [ -x "$tools/bin/qemu-x86_64" ]; then under=("$tools/bin/qemu-x86_64" "${under[@]}"); fi
