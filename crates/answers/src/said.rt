@@ -27,52 +27,52 @@ pub(crate) fn count(count: Count) -> Line {
     says(b"count").count(count)
 }
 
-pub(crate) fn read_u64(answer: ReadU64) -> Line {
+pub(crate) fn read_u64(answer: Result<(u64, Count), Fault>) -> Line {
     match answer {
-        ReadU64::Number(v, n) => says(b"number").number(v).count(n),
-        ReadU64::Refused(refusal, place) => decided(refusal, place),
+        Ok((v, n)) => says(b"number").number(v).count(n),
+        Err(Fault(refusal, place)) => decided(refusal, place),
     }
 }
 
-pub(crate) fn read_u32(answer: ReadU32) -> Line {
+pub(crate) fn read_u32(answer: Result<(u32, Count), Fault>) -> Line {
     match answer {
-        ReadU32::Number(v, n) => says(b"number").number(v as u64).count(n),
-        ReadU32::Refused(refusal, place) => decided(refusal, place),
+        Ok((v, n)) => says(b"number").number(v as u64).count(n),
+        Err(Fault(refusal, place)) => decided(refusal, place),
     }
 }
 
-pub(crate) fn read_i64(answer: ReadI64) -> Line {
+pub(crate) fn read_i64(answer: Result<(i64, Count), Fault>) -> Line {
     match answer {
-        ReadI64::Number(v, n) => says(b"number").signed(v).count(n),
-        ReadI64::Refused(refusal, place) => decided(refusal, place),
+        Ok((v, n)) => says(b"number").signed(v).count(n),
+        Err(Fault(refusal, place)) => decided(refusal, place),
     }
 }
 
-pub(crate) fn written(answer: Written) -> Line {
+pub(crate) fn written(answer: Result<Count, Refusal>) -> Line {
     match answer {
-        Written::Bytes(n) => count(n),
-        Written::Refused(refusal) => refused(refusal),
+        Ok(n) => count(n),
+        Err(refusal) => refused(refusal),
     }
 }
 
-pub(crate) fn step(answer: Step) -> Line {
+pub(crate) fn step(answer: Result<Step, Refusal>) -> Line {
     match answer {
-        Step::Number(value, n, next) => says(b"number").value(value).count(n).cursor(next),
-        Step::Gap(reason, place, n, next) => says(b"gap")
+        Ok(Step::Number(value, n, next)) => says(b"number").value(value).count(n).cursor(next),
+        Ok(Step::Gap(Fault(reason, place), n, next)) => says(b"gap")
             .refusal(reason)
             .count(n)
             .cursor(next)
             .place(place),
-        Step::Tail(n, next) => says(b"tail").count(n).cursor(next),
-        Step::Finished(next) => says(b"finished").cursor(next),
-        Step::Refused(refusal) => refused(refusal),
+        Ok(Step::Tail(n, next)) => says(b"tail").count(n).cursor(next),
+        Ok(Step::Finished(next)) => says(b"finished").cursor(next),
+        Err(refusal) => refused(refusal),
     }
 }
 
-pub(crate) fn set_down(answer: SetDown) -> Line {
+pub(crate) fn set_down(answer: Result<Cursor, Refusal>) -> Line {
     match answer {
-        SetDown::At(cursor) => says(b"start").cursor(cursor),
-        SetDown::Refused(refusal) => refused(refusal),
+        Ok(cursor) => says(b"start").cursor(cursor),
+        Err(refusal) => refused(refusal),
     }
 }
 
@@ -84,10 +84,10 @@ fn turn(turn: Turn) -> Line {
     }
 }
 
-pub(crate) fn meaning(answer: Meaning) -> Line {
+pub(crate) fn meaning(answer: Result<Turn, Refusal>) -> Line {
     match answer {
-        Meaning::Turn(name) => turn(name),
-        Meaning::Refused(refusal) => refused(refusal),
+        Ok(name) => turn(name),
+        Err(refusal) => refused(refusal),
     }
 }
 
@@ -95,18 +95,18 @@ fn filled(numbers: Numbers) -> Line {
     says(b"count").number(numbers.0 as u64)
 }
 
-pub(crate) fn read_list(answer: ReadList) -> Line {
+pub(crate) fn read_list(answer: Result<Numbers, NotRead>) -> Line {
     match answer {
-        ReadList::Filled(numbers) => filled(numbers),
-        ReadList::Faulty(refusal, place) => decided(refusal, place),
-        ReadList::Refused(refusal) => refused(refusal),
+        Ok(numbers) => filled(numbers),
+        Err(NotRead::Faulty(Fault(refusal, place))) => decided(refusal, place),
+        Err(NotRead::Refused(refusal)) => refused(refusal),
     }
 }
 
-pub(crate) fn read_phrase(answer: ReadPhrase) -> Line {
+pub(crate) fn read_phrase(answer: Result<Numbers, Refusal>) -> Line {
     match answer {
-        ReadPhrase::Filled(numbers) => filled(numbers),
-        ReadPhrase::Refused(refusal) => refused(refusal),
+        Ok(numbers) => filled(numbers),
+        Err(refusal) => refused(refusal),
     }
 }
 
@@ -117,11 +117,11 @@ fn entry(entry: Entry) -> Line {
         .signed(entry.turn)
 }
 
-pub(crate) fn read_entry(answer: ReadEntry) -> Line {
+pub(crate) fn read_entry(answer: Result<ReadEntry, Refusal>) -> Line {
     match answer {
-        ReadEntry::Good(read, end) => entry(read).place(end),
-        ReadEntry::Bad(refusal, end) => decided(refusal, end),
-        ReadEntry::Refused(refusal) => refused(refusal),
+        Ok(ReadEntry::Good(read, end)) => entry(read).place(end),
+        Ok(ReadEntry::Bad(refusal, end)) => decided(refusal, end),
+        Err(refusal) => refused(refusal),
     }
 }
 
@@ -134,10 +134,10 @@ fn setting(setting: Setting) -> Line {
     }
 }
 
-pub(crate) fn read_setting(answer: ReadSetting) -> Line {
+pub(crate) fn read_setting(answer: Result<(Setting, Count), Refusal>) -> Line {
     match answer {
-        ReadSetting::Setting(read, n) => setting(read).count(n),
-        ReadSetting::Refused(refusal) => refused(refusal),
+        Ok((read, n)) => setting(read).count(n),
+        Err(refusal) => refused(refusal),
     }
 }
 

@@ -6,7 +6,7 @@ use crate::numbers::Narrow;
 use crate::settings::Asked;
 use crate::{hex, numbers, said, settings};
 use entries::Entry;
-use words::{Count, Place, Written};
+use words::{Count, Place, Refusal};
 
 // What comes of such an op: the writer's answer, and the place from which on it was lent the bytes; or the op is unknown.
 #[derive(Clone, Copy)]

@@ -12,10 +12,11 @@ use Rattle.blocks.specs.declared.Step.{Step}
 use Rattle.blocks.specs.declared.Step.TheVariants as S
 use Rattle.groups.specs.declared.Value.{Value}
 use Rattle.groups.specs.declared.Value.TheVariants as N
-use Rattle.blocks.specs.declared.SetDown.{SetDown}
-use Rattle.blocks.specs.declared.SetDown.TheVariants as D
+use Rattle.std.specs.Prelude.{Result, Ok, Err}
+use Rattle.words.specs.declared.Refusal.{Refusal}
+use Rattle.blocks.specs.declared.Cursor.{Cursor}
 
-pub same_step : (r r' : Step) → means_step r ≡ means_step r' → r ≡ r'
+pub same_step : (r r' : Result Step Refusal) → means_step r ≡ means_step r' → r ≡ r'
 same_step = same_by means_step back is
   where
     value : Val → Value
@@ -26,21 +27,21 @@ same_step = same_by means_step back is
     value_is (N.Unsigned v) = refl
     value_is (N.Signed v) = refl
 
-    back : Stepped → Step
-    back (number v n p) = S.Number (value v) (record { 0 = n }) (record { place = record { 0 = p } })
-    back (gap k n p) = S.Gap (refusal_of (number_in k)) (record { 0 = place_in k }) (record { 0 = n }) (record { place = record { 0 = p } })
-    back (tail n p) = S.Tail (record { 0 = n }) (record { place = record { 0 = p } })
-    back (finished p) = S.Finished (record { place = record { 0 = p } })
-    back (refuses k) = S.Refused (refusal_of (number_in k))
+    back : Stepped → Result Step Refusal
+    back (number v n p) = Ok (S.Number (value v) (record { 0 = n }) (record { place = record { 0 = p } }))
+    back (gap k n p) = Ok (S.Gap (record { 0 = (refusal_of (number_in k)); 1 = (record { 0 = place_in k }) }) (record { 0 = n }) (record { place = record { 0 = p } }))
+    back (tail n p) = Ok (S.Tail (record { 0 = n }) (record { place = record { 0 = p } }))
+    back (finished p) = Ok (S.Finished (record { place = record { 0 = p } }))
+    back (refuses k) = Err (refusal_of (number_in k))
 
-    is : (r : Step) → back (means_step r) ≡ r
-    is (S.Number v n c) = rw (value_is v)
-    is (S.Gap a at n c) = rw (refusal_back a)
-    is (S.Tail n c) = refl
-    is (S.Finished c) = refl
-    is (S.Refused a) = rw (refusal_back a)
+    is : (r : Result Step Refusal) → back (means_step r) ≡ r
+    is (Ok (S.Number v n c)) = rw (value_is v)
+    is (Ok (S.Gap fault n c)) = rw (refusal_back fault.0)
+    is (Ok (S.Tail n c)) = refl
+    is (Ok (S.Finished c)) = refl
+    is (Err a) = rw (refusal_back a)
 
-pub same_set_down : (r r' : SetDown) → means_set_down r ≡ means_set_down r' → r ≡ r'
+pub same_set_down : (r r' : Result Cursor Refusal) → means_set_down r ≡ means_set_down r' → r ≡ r'
 same_set_down =
-    same_by means_set_down (back (λ (p : ℕ). D.At (record { place = record { 0 = p } })) D.Refused)
-    (λ r. elim r as (λ k. (back (λ (p : ℕ). D.At (record { place = record { 0 = p } })) D.Refused) (means_set_down k) ≡ k) [ D.At c ↦ refl | D.Refused a ↦ ap D.Refused (refusal_back a) ])
+    same_by means_set_down (back (λ (p : ℕ). Ok (record { place = record { 0 = p } })) Err)
+    (λ r. elim r as (λ k. (back (λ (p : ℕ). Ok (record { place = record { 0 = p } })) Err) (means_set_down k) ≡ k) [ Ok c ↦ refl | Err a ↦ ap Err (refusal_back a) ])

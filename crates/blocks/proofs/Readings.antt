@@ -23,6 +23,7 @@ use Rattle.blocks.specs.declared.Step.{Step}
 use Rattle.blocks.specs.declared.Step.TheVariants as S
 use Rattle.blocks.proofs.FromStart.{front_start, group_here, here_long, next_start, end_cut, tail_cut, group_cut}
 use Rattle.blocks.proofs.StepRows.{step_row_kept, some_step_row, step_rows}
+use Rattle.std.specs.Prelude.{Result, Ok, Err}
 
 module _ (f : ℕ → Rule) (s : List ℕ) where
   -- the readings from a place on
@@ -44,12 +45,12 @@ module _ (f : ℕ → Rule) (s : List ℕ) where
 
   module _ (block : Block s) where
     all_given : (p : ℕ) (l : List (ℕ × ℕ × Answer Val)) → Start s p → ReaderGives f s p l → l ≡ from_here p
-    all_given p _ k (at_end _ c a) = sym (no_group_at_end p ((step_rows (f p) s p (S.Finished c) block.bytes).0 a).1)
-    all_given p _ k (at_tail _ n c a) = sym (no_group_in_tail p ((step_rows (f p) s p (S.Tail n c) block.bytes).0 a).1)
+    all_given p _ k (at_end _ c a) = sym (no_group_at_end p ((step_rows (f p) s p (Ok (S.Finished c)) block.bytes).0 a).1)
+    all_given p _ k (at_tail _ n c a) = sym (no_group_in_tail p ((step_rows (f p) s p (Ok (S.Tail n c)) block.bytes).0 a).1)
     all_given p _ k (at_number _ v n c l a rest) =
-        one_given p n.0 c.place.0 (gives (means_value v)) l ((step_rows (f p) s p (S.Number v n c) block.bytes).0 a).1 (λ j. all_given c.place.0 l j rest)
+        one_given p n.0 c.place.0 (gives (means_value v)) l ((step_rows (f p) s p (Ok (S.Number v n c)) block.bytes).0 a).1 (λ j. all_given c.place.0 l j rest)
     all_given p _ k (at_gap _ why j n c l a rest) =
-        let row = (step_rows (f p) s p (S.Gap why (record { 0 = p + j }) n c) block.bytes).0 a in
+        let row = (step_rows (f p) s p (Ok (S.Gap (record { 0 = why; 1 = (record { 0 = p + j }) }) n c)) block.bytes).0 a in
         let e : j ≡ row.1 = omega (arith, row.2) in
         one_given p n.0 c.place.0 (refused (because_at why j)) l (rw e row.3) (λ i. all_given c.place.0 l i rest)
 
@@ -62,21 +63,21 @@ module _ (f : ℕ → Rule) (s : List ℕ) where
     further : {p n q : ℕ} {a : Answer Val} → GroupReads (f p) s p a n q → (p < q) × Start s q
     further k = (omega (arith, k.next, here_long (group_here k.stands)), rw k.next (next_start (group_here k.stands)))
 
-    ends_by : (p : ℕ) → Start s p → ((q : ℕ) → p < q → Start s q → ReaderGives f s q (from_here q)) → (r : Step) → StepRow (f p) s p r → ReaderGives f s p (from_here p)
-    ends_by p k ih (S.Finished c) row = rw (no_group_at_end p row.1) (at_end p c (step_row_kept (f p) s p (S.Finished c) row))
-    ends_by p k ih (S.Tail n c) row = rw (no_group_in_tail p row.1) (at_tail p n c (step_row_kept (f p) s p (S.Tail n c) row))
-    ends_by p k ih (S.Refused why) row = absurd (no_refusal p k why row)
-    ends_by p k ih (S.Number v n c) row =
+    ends_by : (p : ℕ) → Start s p → ((q : ℕ) → p < q → Start s q → ReaderGives f s q (from_here q)) → (r : Result Step Refusal) → StepRow (f p) s p r → ReaderGives f s p (from_here p)
+    ends_by p k ih (Ok (S.Finished c)) row = rw (no_group_at_end p row.1) (at_end p c (step_row_kept (f p) s p (Ok (S.Finished c)) row))
+    ends_by p k ih (Ok (S.Tail n c)) row = rw (no_group_in_tail p row.1) (at_tail p n c (step_row_kept (f p) s p (Ok (S.Tail n c)) row))
+    ends_by p k ih (Err why) row = absurd (no_refusal p k why row)
+    ends_by p k ih (Ok (S.Number v n c)) row =
         let q = c.place.0 in
         let b = further row.1 in
         subst (ReaderGives f s p) (one_given p n.0 q (gives (means_value v)) (from_here q) row.1 (λ j. refl))
-        (at_number p v n c (from_here q) (step_row_kept (f p) s p (S.Number v n c) row) (ih q b.0 b.1))
-    ends_by p k ih (S.Gap why at n c) row =
+        (at_number p v n c (from_here q) (step_row_kept (f p) s p (Ok (S.Number v n c)) row) (ih q b.0 b.1))
+    ends_by p k ih (Ok (S.Gap fault n c)) row =
         let q = c.place.0 in
         let j = row.1 in
         let b = further row.3 in
-        subst (ReaderGives f s p) (one_given p n.0 q (refused (because_at why j)) (from_here q) row.3 (λ i. refl))
-        (at_gap p why j n c (from_here q) (step_row_kept (f p) s p (S.Gap why (record { 0 = p + j }) n c) (row.0, j, refl, row.3)) (ih q b.0 b.1))
+        subst (ReaderGives f s p) (one_given p n.0 q (refused (because_at fault.0 j)) (from_here q) row.3 (λ i. refl))
+        (at_gap p fault.0 j n c (from_here q) (step_row_kept (f p) s p (Ok (S.Gap (record { 0 = fault.0; 1 = record { 0 = p + j } }) n c)) (row.0, j, refl, row.3)) (ih q b.0 b.1))
 
     ends : (n p : ℕ) → length s - p < n → Start s p → ReaderGives f s p (from_here p)
     ends zero p h k = absurd (omega arith)

@@ -31,30 +31,31 @@ use Rattle.blocks.specs.declared.Cursor.{Cursor}
 use Rattle.blocks.specs.declared.Rule.{Rule}
 use Rattle.blocks.specs.declared.Step.{Step}
 use Rattle.blocks.specs.declared.Step.TheVariants as S
-use Rattle.blocks.specs.declared.SetDown.TheVariants as D
+use Rattle.std.specs.Prelude.{Result, Ok, Err}
+use Rattle.words.specs.declared.Refusal.{Refusal}
 
 module _ (rule : Rule) (s : List ℕ) (p : ℕ) where
-  pub step_too_long : block_limit < length s → Steps rule s p (S.Refused TooLong)
+  pub step_too_long : block_limit < length s → Steps rule s p (Err TooLong)
   unfolding stepping
   step_too_long h = record { is = rw (lt-ltb block_limit (length s) h) }
 
   module _ (fits : length s ≤ block_limit) where
-    pub step_past : length s < p → Steps rule s p (S.Refused Place)
+    pub step_past : length s < p → Steps rule s p (Err Place)
     unfolding stepping
     step_past h = record { is = rw (le-ltb block_limit (length s) fits, lt-ltb (length s) p h) }
 
-    pub step_finished : (c : Cursor) → c.place.0 ≡ p → p ≤ length s → length s ≤ p → Steps rule s p (S.Finished c)
+    pub step_finished : (c : Cursor) → c.place.0 ≡ p → p ≤ length s → length s ≤ p → Steps rule s p (Ok (S.Finished c))
     unfolding stepping
     step_finished c e h l = record { is = rw (le-ltb block_limit (length s) fits, le-ltb (length s) p h, le-leb (length s) p l) (ap finished e) }
 
     module _ (here : p < length s) where
-      pub step_not_a_start : is_start_lem s p ≡ false → Steps rule s p (S.Refused NotAStart)
+      pub step_not_a_start : is_start_lem s p ≡ false → Steps rule s p (Err NotAStart)
       unfolding stepping
       step_not_a_start e =
           record { is = rw (le-ltb block_limit (length s) fits, le-ltb (length s) p (omega arith), lt-leb (length s) p here, e) }
 
       module _ (starts : is_start_lem s p ≡ true) where
-        pub step_tail : (n : Count) (c : Cursor) → n.0 ≡ run (drop p s) → c.place.0 ≡ p → length s ≤ p + run (drop p s) → Steps rule s p (S.Tail n c)
+        pub step_tail : (n : Count) (c : Cursor) → n.0 ≡ run (drop p s) → c.place.0 ≡ p → length s ≤ p + run (drop p s) → Steps rule s p (Ok (S.Tail n c))
         unfolding stepping
         step_tail n c e f h =
             let all : run (drop p s) ≡ length (drop p s) = omega (arith, run_within (drop p s), length-drop p s) in
@@ -83,30 +84,30 @@ module _ (rule : Rule) (s : List ℕ) (p : ℕ) where
               ne_eqb (run (drop p s)) (length (drop p s)) ne,
             )
 
-        pub step_standing : {asked : Rule} {r : Step} → rule ≡ asked → means_step r ≡ standing asked s p → Steps rule s p r
+        pub step_standing : {asked : Rule} {r : Result Step Refusal} → rule ≡ asked → means_step r ≡ standing asked s p → Steps rule s p r
         unfolding stepping standing
         step_standing a e =
             record { is = e ∙ rw (← a, le-ltb block_limit (length s) fits, le-ltb (length s) p (omega arith), lt-leb (length s) p here, starts) }
 
 module _ (s : List ℕ) (p : ℕ) where
-  pub set_too_long : block_limit < length s → SetsDown s p (D.Refused TooLong)
+  pub set_too_long : block_limit < length s → SetsDown s p (Err TooLong)
   unfolding setting_down
   set_too_long h = record { is = rw (lt-ltb block_limit (length s) h) }
 
   module _ (fits : length s ≤ block_limit) where
-    pub set_past : length s < p → SetsDown s p (D.Refused Place)
+    pub set_past : length s < p → SetsDown s p (Err Place)
     unfolding setting_down
     set_past h = record { is = rw (le-ltb block_limit (length s) fits, lt-ltb (length s) p h) }
 
     module _ (here : p ≤ length s) where
-      pub set_front : (c : Cursor) → c.place.0 ≡ p → p < 1 → SetsDown s p (D.At c)
+      pub set_front : (c : Cursor) → c.place.0 ≡ p → p < 1 → SetsDown s p (Ok c)
       unfolding setting_down
       set_front c e h =
           let z : p ≡ 0 = omega arith in
           record { is = rw (le-ltb block_limit (length s) fits, le-ltb (length s) p here, eq-eqb p 0 z) (ap gives (e ∙ z)) }
 
       module _ (some : 1 ≤ p) where
-        pub set_found : (c : Cursor) → c.place.0 ≡ p + run (drop (p - 1) s) → p - 1 + run (drop (p - 1) s) < length s → SetsDown s p (D.At c)
+        pub set_found : (c : Cursor) → c.place.0 ≡ p + run (drop (p - 1) s) → p - 1 + run (drop (p - 1) s) < length s → SetsDown s p (Ok c)
         unfolding setting_down
         set_found c e h =
             record {
@@ -114,7 +115,7 @@ module _ (s : List ℕ) (p : ℕ) where
                   rw (le-ltb block_limit (length s) fits, le-ltb (length s) p here, ne_eqb p 0 (λ z. omega arith), lt-ltb _ (length s) h) (ap gives e);
             }
 
-        pub set_none : length s ≤ p - 1 + run (drop (p - 1) s) → SetsDown s p (D.Refused NoStart)
+        pub set_none : length s ≤ p - 1 + run (drop (p - 1) s) → SetsDown s p (Err NoStart)
         unfolding setting_down
         set_none h =
             record {

@@ -25,11 +25,10 @@ use Rattle.blocks.specs.GroupsAndTail.{Start}
 use Rattle.blocks.specs.Rows.{Least, SetDownRefused, SetDownRow}
 use Rattle.blocks.specs.Rows.SetDownRefused.{too_long, past, no_start}
 use Rattle.blocks.specs.declared.Cursor.{Cursor}
-use Rattle.blocks.specs.declared.SetDown.{SetDown}
-use Rattle.blocks.specs.declared.SetDown.TheVariants as D
 use Rattle.blocks.proofs.Rows.{set_too_long, set_past, set_front, set_found, set_none}
 use Rattle.blocks.proofs.FromStart.{front_start}
 use Rattle.blocks.proofs.OneStep.{same_set_down}
+use Rattle.std.specs.Prelude.{Result, Ok, Err}
 
 abbrev cursor : ℕ → Cursor
 cursor q = record { place = record { 0 = q } }
@@ -59,15 +58,15 @@ module _ (s : List ℕ) (p : ℕ) (some : 1 ≤ p) where
 
 module _ (s : List ℕ) (p : ℕ) where
   -- one of the rows holds
-  pub some_set_down_row : (r : SetDown) × SetDownRow s p r
+  pub some_set_down_row : (r : Result Cursor Refusal) × SetDownRow s p r
   some_set_down_row =
-      by_order block_limit (length s) (λ h. (D.Refused TooLong, too_long h))
+      by_order block_limit (length s) (λ h. (Err TooLong, too_long h))
       (λ f.
-      by_order (length s) p (λ h. (D.Refused Place, past f h))
+      by_order (length s) p (λ h. (Err Place, past f h))
       (λ here.
       by_order p 1
       (λ z. (
-        D.At (cursor p),
+        Ok (cursor p),
         (
           f,
           record {
@@ -80,7 +79,7 @@ module _ (s : List ℕ) (p : ℕ) where
       (λ some.
       by_order (p - 1 + run (drop (p - 1) s)) (length s)
       (λ l. (
-        D.At (cursor (p + run (drop (p - 1) s))),
+        Ok (cursor (p + run (drop (p - 1) s))),
         (
           f,
           record {
@@ -90,10 +89,10 @@ module _ (s : List ℕ) (p : ℕ) where
           },
         ),
       ))
-      (λ l. (D.Refused NoStart, no_start f here (λ q a c. omega (arith, not_before s p some q a c, c.here)))))))
+      (λ l. (Err NoStart, no_start f here (λ q a c. omega (arith, not_before s p some q a c, c.here)))))))
 
   -- where its row holds, an answer is a set-down's
-  refused_row : (why : Refusal) → SetDownRefused s p why → SetsDown s p (D.Refused why)
+  refused_row : (why : Refusal) → SetDownRefused s p why → SetsDown s p (Err why)
   refused_row _ (too_long h) = set_too_long s p h
   refused_row _ (past f h) = set_past s p f h
   refused_row _ (no_start f here none) =
@@ -103,9 +102,9 @@ module _ (s : List ℕ) (p : ℕ) where
       (λ l. absurd (none (p + run (drop (p - 1) s)) (omega arith) (start_there s p some l)))
       (λ l. set_none s p f here some l))
 
-  pub set_down_row_kept : (r : SetDown) → SetDownRow s p r → SetsDown s p r
-  set_down_row_kept (D.Refused why) h = refused_row why h
-  set_down_row_kept (D.At c) h =
+  pub set_down_row_kept : (r : Result Cursor Refusal) → SetDownRow s p r → SetsDown s p r
+  set_down_row_kept (Err why) h = refused_row why h
+  set_down_row_kept (Ok c) h =
       let k : Least s p c.place.0 = h.1 in
       by_order p 1
       (λ z. set_front s p h.0 (omega (arith, k.from, k.start.here)) c
@@ -117,5 +116,5 @@ module _ (s : List ℕ) (p : ℕ) where
       (by_order (p + run (drop (p - 1) s)) c.place.0 (λ l. absurd (k.none_before (p + run (drop (p - 1) s)) (omega arith) l (start_there s p some there))) (λ l. omega (arith, low)))
       there)
 
-  pub set_down_rows : (r : SetDown) → SetsDown s p r ↔ SetDownRow s p r
+  pub set_down_rows : (r : Result Cursor Refusal) → SetsDown s p r ↔ SetDownRow s p r
   set_down_rows = by_rows (λ r r' a b. same_set_down r r' (a.is ∙ sym b.is)) set_down_row_kept some_set_down_row

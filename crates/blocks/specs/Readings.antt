@@ -4,7 +4,7 @@
 --   readings f gs         the readings of the groups gs, each by the rule that f chooses for its place
 --   ReaderGives f s p l   from the place p on, steps by the rules that f chooses give the readings l, each with its place and its count of bytes,
 --                         until one says Tail or Finished; where a gap stands at p, the byte that decided it is counted from there
-use Rattle.std.specs.Prelude.{ℕ, ◌+◌, ◌≤◌, List, [], ◌∷◌, length}
+use Rattle.std.specs.Prelude.{ℕ, ◌+◌, ◌≤◌, List, [], ◌∷◌, length, Ok}
 use Rattle.words.specs.Answer.{Answer, gives, refused, because_at}
 use Rattle.words.specs.declared.Count.{Count}
 use Rattle.words.specs.declared.Refusal.{Refusal}
@@ -25,10 +25,10 @@ readings f [] = []
 readings f (k ∷ l) = (k.0, k.1, read_by (f k.0) k.2) ∷ readings f l
 
 pub data ReaderGives (f : ℕ → Rule) (s : List ℕ) : ℕ → List (ℕ × ℕ × Answer Val) → Type 0 where
-  at_end : (p : ℕ) (c : Cursor) → Steps (f p) s p (S.Finished c) → ReaderGives f s p []
-  at_tail : (p : ℕ) (n : Count) (c : Cursor) → Steps (f p) s p (S.Tail n c) → ReaderGives f s p []
+  at_end : (p : ℕ) (c : Cursor) → Steps (f p) s p (Ok (S.Finished c)) → ReaderGives f s p []
+  at_tail : (p : ℕ) (n : Count) (c : Cursor) → Steps (f p) s p (Ok (S.Tail n c)) → ReaderGives f s p []
   at_number : (p : ℕ) (v : Value) (n : Count) (c : Cursor) (l : List (ℕ × ℕ × Answer Val))
-      → Steps (f p) s p (S.Number v n c) → ReaderGives f s c.place.0 l → ReaderGives f s p ((p, n.0, gives (means_value v)) ∷ l)
+      → Steps (f p) s p (Ok (S.Number v n c)) → ReaderGives f s c.place.0 l → ReaderGives f s p ((p, n.0, gives (means_value v)) ∷ l)
   at_gap : (p : ℕ) (why : Refusal) (j : ℕ) (n : Count) (c : Cursor) (l : List (ℕ × ℕ × Answer Val))
-      → Steps (f p) s p (S.Gap why (record { 0 = p + j }) n c) → ReaderGives f s c.place.0 l
+      → Steps (f p) s p (Ok (S.Gap (record { 0 = why; 1 = (record { 0 = p + j }) }) n c)) → ReaderGives f s c.place.0 l
       → ReaderGives f s p ((p, n.0, refused (because_at why j)) ∷ l)

@@ -2,7 +2,7 @@
 #![tactic(auto)]
 
 ghost use Rattle.std.specs.Prelude.{◌≡◌, ◌+◌, ◌-◌, ◌^◌, ◌<◌, ◌≤◌, [], ◌∷◌, length, drop};
-ghost use Rattle.words.specs.Answer.{gives, because_at};
+ghost use Rattle.words.specs.Answer.{gives, because_of};
 ghost use Rattle.groups.specs.Group.{run};
 ghost use Rattle.blocks.specs.Block.{is_start_lem, read_by};
 ghost use Rattle.blocks.specs.Inner.{InRun, missing, standing};
@@ -10,9 +10,9 @@ ghost use Rattle.blocks.specs.Promise.{means_value, means_step, Steps, SetsDown}
 
 use bits::is_high_8_bit_set;
 use groups::Value;
-use sleb128::{ReadI64, read_i64};
-use uleb128::{ReadU64, read_u64};
-use words::{Count, Place, Refusal};
+use sleb128::read_i64;
+use uleb128::read_u64;
+use words::{Count, Fault, Place, Refusal};
 
 // The most bytes of a block.
 pub const BLOCK_LIMIT: usize = 65536;
@@ -30,21 +30,13 @@ pub struct Cursor {
     pub place: Place,
 }
 
-// What a step says. Each but a refusal hands the cursor back: moved past one group by Number and Gap, as it was by Tail
-// and Finished. A gap has its reason and the place of the byte that decided it.
+// What a step says. Each hands the cursor back: moved past one group by Number and Gap, as it was by Tail and Finished.
 #[derive(Clone, Copy)]
 pub enum Step {
     Number(Value, Count, Cursor),
-    Gap(Refusal, Place, Count, Cursor),
+    Gap(Fault, Count, Cursor),
     Tail(Count, Cursor),
     Finished(Cursor),
-    Refused(Refusal),
-}
-
-#[derive(Clone, Copy)]
-pub enum SetDown {
-    At(Cursor),
-    Refused(Refusal),
 }
 
 // Whether a group, a tail or the end can begin at the place.
@@ -118,68 +110,69 @@ fn between(from: usize, to: usize) -> usize
 
 // What a step says where the reading is refused: a gap over the whole group, or a tail. All bytes before the one that decided it are
 // 128 or more, so the search for the group's end goes on from there.
-fn unread(block: &[u8], at: usize, refusal: Refusal, decided: Place) -> Step
-    requires { InRun block.now at decided.0 }
-    ensures { means_step result ≡ missing block.now at (because_at refusal decided.0) }
+fn unread(block: &[u8], at: usize, fault: Fault) -> Result<Step, Refusal>
+    requires { InRun block.now at fault.1.0 }
+    ensures { means_step result ≡ missing block.now at (because_of fault) }
 {
+    let Fault(_, decided) = fault;
     let from = decided.0;
     let more = high_run(block, from);
     let last = from + more;
     let high = between(at, last);
     if block.len() <= last {
-        return Step::Tail(Count(high), Cursor { place: Place(at) });
+        return Ok(Step::Tail(Count(high), Cursor { place: Place(at) }));
     }
     let count = high + 1;
-    Step::Gap(refusal, decided, Count(count), past(at, count))
+    Ok(Step::Gap(fault, Count(count), past(at, count)))
 }
 
 // What a step says at a start before the block's end, in full: for groups of more than one byte, gaps and tails.
-fn long(block: &[u8], at: usize, rule: Rule) -> Step
+fn long(block: &[u8], at: usize, rule: Rule) -> Result<Step, Refusal>
     requires { at < length block.now }
     ensures { means_step result ≡ standing rule block.now at }
 {
     match rule {
         Rule::Unsigned => match read_u64(block, Place(at)) {
-            ReadU64::Number(v, count) => {
+            Ok((v, count)) => {
                 let n = count.0;
-                Step::Number(Value::Unsigned(v), Count(n), past(at, n))
+                Ok(Step::Number(Value::Unsigned(v), Count(n), past(at, n)))
             }
-            ReadU64::Refused(refusal, place) => unread(block, at, refusal, place),
+            Err(fault) => unread(block, at, fault),
         },
         Rule::Signed => match read_i64(block, Place(at)) {
-            ReadI64::Number(v, count) => {
+            Ok((v, count)) => {
                 let n = count.0;
-                Step::Number(Value::Signed(v), Count(n), past(at, n))
+                Ok(Step::Number(Value::Signed(v), Count(n), past(at, n)))
             }
-            ReadI64::Refused(refusal, place) => unread(block, at, refusal, place),
+            Err(fault) => unread(block, at, fault),
         },
     }
 }
 
 impl Cursor {
     // One step: 7, 4 or 6; the end; a tail; or what the group at the place says by the rule.
-    pub fn step(self, block: &[u8], rule: Rule) -> Step
+    pub fn step(self, block: &[u8], rule: Rule) -> Result<Step, Refusal>
         ensures { Steps rule block.now self.place.0 result }
     {
         let place = self.place;
         let at = place.0;
         if BLOCK_LIMIT < block.len() {
-            return Step::Refused(Refusal::TooLong);
+            return Err(Refusal::TooLong);
         }
         if block.len() < at {
-            return Step::Refused(Refusal::Place);
+            return Err(Refusal::Place);
         }
         if block.len() <= at {
-            return Step::Finished(self);
+            return Ok(Step::Finished(self));
         }
         let starts = is_start(block, at);
         if !starts {
-            return Step::Refused(Refusal::NotAStart);
+            return Err(Refusal::NotAStart);
         }
         let b = block[at];
         let more = is_high_8_bit_set(b);
         if !more {
-            return Step::Number(alone(rule, b), Count(1), past(at, 1));
+            return Ok(Step::Number(alone(rule, b), Count(1), past(at, 1)));
         }
         // Called in two places, `long` stays outside of the step, which so is small enough to become part of its callers
         // (docs/SPEED.md).
@@ -191,24 +184,24 @@ impl Cursor {
 }
 
 // The least start at or after the place: 7, 4, or 8 if there is none.
-pub fn set_down(block: &[u8], place: Place) -> SetDown
+pub fn set_down(block: &[u8], place: Place) -> Result<Cursor, Refusal>
     ensures { SetsDown block.now place.0 result }
 {
     let at = place.0;
     if BLOCK_LIMIT < block.len() {
-        return SetDown::Refused(Refusal::TooLong);
+        return Err(Refusal::TooLong);
     }
     if block.len() < at {
-        return SetDown::Refused(Refusal::Place);
+        return Err(Refusal::Place);
     }
     if at < 1 {
-        return SetDown::At(Cursor { place });
+        return Ok(Cursor { place });
     }
     let before = at - 1;
     let high = high_run(block, before);
     let last = before + high;
     if last < block.len() {
-        return SetDown::At(past(at, high));
+        return Ok(past(at, high));
     }
-    SetDown::Refused(Refusal::NoStart)
+    Err(Refusal::NoStart)
 }

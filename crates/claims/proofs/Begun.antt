@@ -14,18 +14,17 @@ use mathlib.Core.Path.{◌≡◌, refl, ap, sym, ◌∙◌}
 use native.Mathlib.Omega.{arith}
 use lib.ListN.{length, take, drop, length-append, length-drop, take-append-drop}
 use lib.Seq.{length-take-le, drop_at, drop-append-le, drop-drop, drop-append_seam, take-append_seam}
-use Rattle.words.specs.Answer.{means_written}
+use Rattle.words.specs.Answer.{means_written, Written}
 use Rattle.words.specs.Lays.{Lays}
 use Rattle.words.specs.Refusal.{number_of}
 use Rattle.words.specs.declared.Count.{Count}
 use Rattle.words.specs.declared.Refusal.{Refusal}
 use Rattle.words.specs.declared.Refusal.TheVariants.{NoRoom}
-use Rattle.words.specs.declared.Written.{Written}
-use Rattle.words.specs.declared.Written.TheVariants as W
 use Rattle.words.proofs.Cases.{by_order}
 use Rattle.words.proofs.LaysExactly.{laid_fits, laid_no_room, count_fits}
 use Rattle.words.proofs.OneMeaning.{apart, refused_same}
 use Rattle.groups.specs.Begins.{Begins}
+use Rattle.std.specs.Prelude.{Ok, Err}
 
 module _ (s : List ℕ) (at : ℕ) where
   pub byte_here : {b : ℕ} {l : List ℕ} → drop at s ≡ b ∷ l → at ≤ length s
@@ -58,16 +57,16 @@ module _ {A : Type 0} {form : A → List ℕ} {OfWidth : A → Type 0} {s : List
       sym (drop-drop (length (form v)) at s) ∙ ap (drop (length (form v))) b.begins ∙ drop-append_seam (form v) b.rest in
       rw (e, append_assoc, ← b.begins, take-append-drop)
 
-  pub lays_back : {r : Written} {after : List ℕ} → Lays (form v) s at r after → (r ≡ W.Bytes n) × (after ≡ s)
+  pub lays_back : {r : Written} {after : List ℕ} → Lays (form v) s at r after → (r ≡ Ok n) × (after ≡ s)
   lays_back {r} {after} l =
       let f = laid_fits (form v) s at r after l taken in
-      (f.0 ∙ ap (λ (m : ℕ). W.Bytes (record { 0 = m })) (sym b.count), f.1 ∙ put_back)
+      (f.0 ∙ ap (λ (m : ℕ). Ok (record { 0 = m })) (sym b.count), f.1 ∙ put_back)
 
 pub laid_begins : {A : Type 0} (form : A → List ℕ) (OfWidth : A → Type 0) (v : A) {before after : List ℕ} {at : ℕ} (n : Count) → OfWidth v
-    → Lays (form v) before at (W.Bytes n) after → Begins form OfWidth after at v n.0
+    → Lays (form v) before at (Ok n) after → Begins form OfWidth after at v n.0
 laid_begins form OfWidth v {before} {after} {at} n of_width l =
-    let b = count_fits (form v) before at (W.Bytes n) after l n refl in
-    let e = (laid_fits (form v) before at (W.Bytes n) after l b.0).1 in
+    let b = count_fits (form v) before at (Ok n) after l n refl in
+    let e = (laid_fits (form v) before at (Ok n) after l b.0).1 in
     let rest = drop (at + length (form v)) before in
     let t : length (take at before) ≡ at = length-take-le at before (omega (arith, b.0)) in
     record {
@@ -78,7 +77,7 @@ laid_begins form OfWidth v {before} {after} {at} n of_width l =
       count = b.1;
     }
 
-pub refused_by : {bytes s out : List ℕ} {at : ℕ} {r : Written} → Lays bytes s at r out → (why : Refusal) → r ≡ W.Refused why → number_of why ≡ 5
+pub refused_by : {bytes s out : List ℕ} {at : ℕ} {r : Written} → Lays bytes s at r out → (why : Refusal) → r ≡ Err why → number_of why ≡ 5
 refused_by {bytes} {s} {out} {at} {r} l why e =
     by_order (length s) (at + length bytes)
     (λ h. ap number_of (refused_same why NoRoom (ap means_written (sym e ∙ (laid_no_room bytes s at r out l h).0))))

@@ -34,9 +34,11 @@ use Rattle.blocks.proofs.Readings.{reads_all}
 use Rattle.blocks.proofs.OneStep.{same_step}
 use Rattle.blocks.proofs.StepRows.{says_group, step_row_kept, step_rows}
 use Rattle.claims.specs.OfDamage.{Front, Back, GapMoves, FrontRead, BackRead}
+use Rattle.std.specs.Prelude.{Result, Ok}
+use Rattle.words.specs.declared.Refusal.{Refusal}
 
 -- a step says of a group what its own bytes say
-said : {rule : Rule} {s : List ℕ} {p : ℕ} {g : List ℕ} {r : Step} → Block s → GroupAt s p g → Steps rule s p r → means_step r ≡ says_by rule g p
+said : {rule : Rule} {s : List ℕ} {p : ℕ} {g : List ℕ} {r : Result Step Refusal} → Block s → GroupAt s p g → Steps rule s p r → means_step r ≡ says_by rule g p
 said {rule} {s} {p} {g} block k w = w.is ∙ sym (says_group rule s p g block.short k)
 
 pub damage_front : Front
@@ -51,14 +53,14 @@ damage_back a x y b p p' g h e =
 
 pub damage_back_gap : GapMoves
 damage_back_gap a x y b p p' h e rule why at n c r' old new w w' =
-    let row = (step_rows rule (a ++ x ++ b) p (S.Gap why at n c) old.bytes).0 w in
+    let row = (step_rows rule (a ++ x ++ b) p (Ok (S.Gap (record { 0 = why; 1 = at }) n c)) old.bytes).0 w in
     let k = row.3 in
     let at' : Place = record { 0 = p' + row.1 } in
     let c' : Cursor = record { place = record { 0 = p' + length k.group } } in
     let there = (begins_behind groups_local a x y b p p' k.group (omega arith) e).0 k.stands in
-    let kept = step_row_kept rule (a ++ y ++ b) p' (S.Gap why at' n c')
+    let kept = step_row_kept rule (a ++ y ++ b) p' (Ok (S.Gap (record { 0 = why; 1 = at' }) n c'))
     (new.short, row.1, refl, record { group = k.group; stands = there; reads = k.reads; count = k.count; next = refl }) in
-    (at', c', same_step r' (S.Gap why at' n c') (w'.is ∙ sym kept.is), omega (arith, row.2, e))
+    (at', c', same_step r' (Ok (S.Gap (record { 0 = why; 1 = at' }) n c')) (w'.is ∙ sym kept.is), omega (arith, row.2, e))
 
 -- reading keeps places and counts
 readings_ending : (f : ℕ → Rule) (reach n : ℕ) (l : List (ℕ × ℕ × List ℕ)) → ending reach n (readings f l) ≡ readings f (ending reach n l)

@@ -30,8 +30,10 @@ use Rattle.entries.proofs.OneEntry.{entry_bytes, same_entry, one_answered, answe
 use Rattle.entries.proofs.SameList.{ordered_up, same_list, same_triple}
 use Rattle.entries.proofs.InOrder.{given_all}
 use Rattle.claims.specs.OfEntries.{EntryFront, EntryBack, SameMoved, good_moved, bad_moved, EntriesFront, EntriesBack}
+use Rattle.std.specs.Prelude.{Result}
+use Rattle.words.specs.declared.Refusal.{Refusal}
 
-at_entry : {s : List ℕ} {p : ℕ} {e : List ℕ} {r : ReadEntry} → Block s → EntryAt s p e → ReadsEntry s p r
+at_entry : {s : List ℕ} {p : ℕ} {e : List ℕ} {r : Result ReadEntry Refusal} → Block s → EntryAt s p e → ReadsEntry s p r
     → (v : Verdict) × Judged (drop 2 e) v × (r ≡ answer_of v (p + length e))
 at_entry {s} {p} {e} {r} block k w =
     let v = some_verdict (drop 2 e) (entry_bytes block.bytes k) in

@@ -17,7 +17,6 @@ use lib.ListN.{length, take, drop, take-append-drop}
 use lib.Seq.{take-length, take-take}
 use Rattle.words.specs.Answer.{gives, means_written}
 use Rattle.words.specs.declared.Refusal.TheVariants as Why
-use Rattle.words.specs.declared.Written.TheVariants as W
 use Rattle.words.proofs.LaysExactly.{laid_there}
 use Rattle.words.proofs.OneMeaning.{apart, given, by_answer}
 use Rattle.groups.specs.Group.{Group}
@@ -47,6 +46,8 @@ use Rattle.claims.specs.OfEntries.{OfWidths, GoodForm, OneForm, AbsurdRead, Writ
 use Rattle.claims.proofs.ReadGroup.{read_group}
 use Rattle.claims.proofs.Readers.{mag_of_within}
 use Rattle.claims.proofs.Begun.{refused_by}
+use Rattle.std.specs.Prelude.{Result, Ok}
+use Rattle.words.specs.declared.Refusal.{Refusal}
 
 -- a field of a kind, which tells a number of the kind as a value
 module _ (k : Kind) (tell : Value k → Val) where
@@ -128,7 +129,7 @@ few_bytes x h =
     )
 
 form_read : {s : List ℕ} {p : ℕ} (x : Entry) (v : Verdict) → length s ≤ block_limit → EntryAt s p (entry_form x) → Judged (forms_of (numbers_of x)) v
-    → (r : ReadEntry) → ReadsEntry s p r → r ≡ answer_of v (p + length (entry_form x))
+    → (r : Result ReadEntry Refusal) → ReadsEntry s p r → r ≡ answer_of v (p + length (entry_form x))
 form_read {s} {p} x v short stands j r k =
     let n = length (entry_form x) in
     let first = reads_first v short (record {
@@ -150,10 +151,10 @@ pub written_back : WrittenBack
 written_back x before at n after r h (absurd_turn k e i) q = apart (ap means_written e)
 written_back x before at n after r h (sensible_turn k w) q =
     let l = forms_of (numbers_of x) in
-    let there = laid_there (entry_form x) before at (W.Bytes n) after w n refl in
+    let there = laid_there (entry_form x) before at (Ok n) after w n refl in
     let e : 0 + length (entry_form x) ≡ n.0 = omega (arith, there.0) in
     form_read x (good x) (few_bytes x h) (form_stands x h) (is_good (record { says = forms_said l x h refl; sensible = k })) r (subst (λ (s : List ℕ). ReadsEntry s 0 r) there.1 q)
-    ∙ ap (λ (i : ℕ). R.Good x (record { 0 = i })) e
+    ∙ ap (λ (i : ℕ). Ok (R.Good x (record { 0 = i }))) e
 
 good_sensible : {l : List ℕ} {v : Verdict} {x : Entry} → Judged l v → v ≡ good x → Absurd x.turn → ⊥
 good_sensible {x = x} j e = elim (rw e at j) [ is_good g ↦ g.sensible ]
@@ -161,7 +162,7 @@ good_sensible {x = x} j e = elim (rw e at j) [ is_good g ↦ g.sensible ]
 pub refused_unread : RefusedUnread
 refused_unread x before at after h (absurd_turn k e i) =
     let z : 0 + length (entry_form x) ≡ length (entry_form x) = omega arith in (
-      λ r w. absurd_read (entry_form x) 0 x r (few_bytes x h) h k (form_stands x h) w ∙ ap (λ (n : ℕ). R.Bad Why.Entry (record { 0 = n })) z,
+      λ r w. absurd_read (entry_form x) 0 x r (few_bytes x h) h k (form_stands x h) w ∙ ap (λ (n : ℕ). Ok (R.Bad Why.Entry (record { 0 = n }))) z,
       λ s p q w. good_sensible (first_of (good x) w.answer refl).1.entry.judged refl k,
     )
 refused_unread x before at after h (sensible_turn k w) = absurd (omega (arith, refused_by w Why.Entry refl))

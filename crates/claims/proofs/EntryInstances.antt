@@ -15,7 +15,6 @@ use native.Mathlib.Omega.{arith}
 use lib.IntN.{pos}
 use Rattle.words.specs.Lays.{writing, laid}
 use Rattle.words.specs.declared.Refusal.TheVariants as Why
-use Rattle.words.specs.declared.Written.TheVariants as W
 use Rattle.groups.specs.Form.{spell, spellings}
 use Rattle.uleb128.specs.Unsigned as unsigned
 use Rattle.sleb128.specs.Signed as signed
@@ -31,6 +30,7 @@ use Rattle.entries.proofs.InOrder.{some_given}
 use Rattle.claims.specs.OfEntries.{OfWidths}
 use Rattle.claims.proofs.Readers.{within_of_mag}
 use Rattle.claims.proofs.EntryForms.{form_stands}
+use Rattle.std.specs.Prelude.{Ok, Err}
 
 -- behind the first mark, the next stands at 5
 none_between : (q : ℕ) → 2 ≤ q → q < 5 → GroupAt (0x80 ∷ 0x00 ∷ 0x01 ∷ 0x02 ∷ 0x03 ∷ 0x80 ∷ 0x00 ∷ 0x05 ∷ []) q mark → ⊥
@@ -61,14 +61,14 @@ given s block = some_given block 0 (omega arith)
 widths : OfWidths (record { segment = 0; sentence = 0; turn = pos 0 })
 widths = record { segment = omega arith; sentence = omega arith; turn = within_of_mag (pos 0) (2 ^ 63) (omega arith) }
 
-written : WritesEntry (record { segment = 0; sentence = 0; turn = pos 0 }) (9 ∷ 9 ∷ 9 ∷ 9 ∷ 9 ∷ []) 0 (W.Bytes (record { 0 = 5 })) (0x80 ∷ 0x00 ∷ 0x00 ∷ 0x00 ∷ 0x00 ∷ [])
+written : WritesEntry (record { segment = 0; sentence = 0; turn = pos 0 }) (9 ∷ 9 ∷ 9 ∷ 9 ∷ 9 ∷ []) 0 (Ok (record { 0 = 5 })) (0x80 ∷ 0x00 ∷ 0x00 ∷ 0x00 ∷ 0x00 ∷ [])
 unfolding writing laid unsigned.form signed.form spell spellings
 written = sensible_turn (not_absurd (pos 0) refl refl) (record { answer = refl; leaves = refl })
 
 wide : OfWidths (record { segment = 0; sentence = 0; turn = pos 401 })
 wide = record { segment = omega arith; sentence = omega arith; turn = within_of_mag (pos 401) (2 ^ 63) (omega arith) }
 
-unwritten : WritesEntry (record { segment = 0; sentence = 0; turn = pos 401 }) (9 ∷ []) 0 (W.Refused Why.Entry) (9 ∷ [])
+unwritten : WritesEntry (record { segment = 0; sentence = 0; turn = pos 401 }) (9 ∷ []) 0 (Err Why.Entry) (9 ∷ [])
 unwritten = absurd_turn (above_absurd (pos 401) refl) refl refl
 
 beyond : EntryAt (entry_form (record { segment = 0; sentence = 0; turn = pos 401 })) 0 (entry_form (record { segment = 0; sentence = 0; turn = pos 401 }))

@@ -25,6 +25,7 @@ use Rattle.claims.specs.Table.{GapRow}
 use Rattle.claims.specs.OfBlocks.{GapWithin}
 use Rattle.claims.proofs.Readers.{reading_of}
 use Rattle.claims.proofs.ReadGroup.{read_group}
+use Rattle.std.specs.Prelude.{Ok}
 
 pub decided_within : (k : Kind) (g : List ℕ) (why : Refusal) (j : ℕ) → Group g → reading (width k) g ≡ refused (because_at why j) → j < length g
 decided_within k g why j group e = within why (((read_group k g group).gap why j).0 e)
@@ -43,7 +44,7 @@ by_rule Signed g why j group e = decided_within signed64 g why j group (valued_r
 
 pub gap_within : GapWithin
 gap_within rule s p why at n c bytes w =
-    let row = (step_rows rule s p (S.Gap why at n c) bytes).0 w in
+    let row = (step_rows rule s p (Ok (S.Gap (record { 0 = why; 1 = at }) n c)) bytes).0 w in
     let k = row.3 in
     let inside : row.1 < length k.group = by_rule rule k.group why row.1 k.stands.is_group k.reads in
     (omega (arith, row.2), omega (arith, row.2, k.count))

@@ -20,7 +20,6 @@ use Rattle.words.specs.Answer.{gives, refused, because_at}
 use Rattle.words.specs.Lays.{writing, laid}
 use Rattle.words.specs.declared.Count.{Count}
 use Rattle.words.specs.declared.Refusal.TheVariants.{NotShortest, Place, NoStart}
-use Rattle.words.specs.declared.Written.TheVariants as W
 use Rattle.groups.specs.Form.{spell, spellings}
 use Rattle.groups.specs.Group.{Bytes, Group, one, run, digits}
 use Rattle.groups.specs.Width.{runs_out, is_too_large, is_too_many, reading, read}
@@ -32,7 +31,6 @@ use Rattle.blocks.specs.GroupsAndTail.{GroupAt}
 use Rattle.blocks.specs.Readings.{Block}
 use Rattle.blocks.specs.declared.Cursor.{Cursor}
 use Rattle.blocks.specs.declared.Rule.TheVariants.{Unsigned}
-use Rattle.blocks.specs.declared.SetDown.TheVariants as D
 use Rattle.blocks.specs.declared.Step.TheVariants as S
 use Rattle.blocks.proofs.FromStart.{front_start}
 use Rattle.lists.specs.Lists.{forms}
@@ -40,6 +38,7 @@ use Rattle.lists.specs.Promise.{WritesList}
 use Rattle.claims.specs.Kinds.{Kind, loop64, recursive64, unsigned32, signed64, number, refuse, ReadsAs, width, WritesAs}
 use Rattle.claims.specs.OfNumbers.{zero_of}
 use Rattle.claims.proofs.Readers.{number_says, refusal_says}
+use Rattle.std.specs.Prelude.{Ok, Err}
 
 abbrev count : ℕ → Count
 count n = record { 0 = n }
@@ -48,7 +47,7 @@ abbrev cursor : ℕ → Cursor
 cursor p = record { place = record { 0 = p } }
 
 module _ where
-  written : (k : Kind) → WritesAs k (zero_of k) (1 ∷ []) 0 (W.Bytes (count 1)) (0 ∷ [])
+  written : (k : Kind) → WritesAs k (zero_of k) (1 ∷ []) 0 (Ok (count 1)) (0 ∷ [])
   unfolding unsigned.form signed.form spell spellings writing laid
   written loop64 = record { answer = refl; leaves = refl }
   written recursive64 = record { answer = refl; leaves = refl }
@@ -75,7 +74,7 @@ module _ where
   one_too_many : (k : Kind) → ReadsAs k (0x80 ∷ 0 ∷ []) 0 (refuse k NotShortest (record { 0 = 1 }))
   one_too_many k = (refusal_says k (0x80 ∷ 0 ∷ []) 0 NotShortest (record { 0 = 1 })).1 (reads_one_too_many k)
 
-  list : WritesList (0 ∷ []) (1 ∷ []) 0 (W.Bytes (count 1)) (0 ∷ [])
+  list : WritesList (0 ∷ []) (1 ∷ []) 0 (Ok (count 1)) (0 ∷ [])
   unfolding forms unsigned.form spell spellings writing laid
   list = record { answer = refl; leaves = refl }
 
@@ -101,7 +100,7 @@ module _ where
   behind = (omega arith, record { start = record { here = omega arith; behind = inr (omega arith, omega arith) }; is_group = group; there = refl })
 
   gap_behind : (length (a ++ x) + run (7 ∷ 0x80 ∷ 0 ∷ []) < 3)
-      × Steps Unsigned (a ++ x ++ 7 ∷ 0x80 ∷ 0 ∷ []) 3 (S.Gap NotShortest (record { 0 = 4 }) (count 2) (cursor 5))
+      × Steps Unsigned (a ++ x ++ 7 ∷ 0x80 ∷ 0 ∷ []) 3 (Ok (S.Gap (record { 0 = NotShortest; 1 = (record { 0 = 4 }) }) (count 2) (cursor 5)))
   unfolding stepping is_start_lem run reading runs_out is_too_large is_too_many
   gap_behind = (omega arith, record { is = refl })
 
@@ -128,18 +127,18 @@ module _ where
       bytes (suc (suc (suc i))) = omega arith
 
 module _ where
-  set_down : SetsDown (5 ∷ 6 ∷ []) 1 (D.At (cursor 1))
+  set_down : SetsDown (5 ∷ 6 ∷ []) 1 (Ok (cursor 1))
   unfolding setting_down run
   set_down = record { is = refl }
 
-  lost : SetsDown (drop 1 (5 ∷ 6 ∷ 7 ∷ [])) 1 (D.At (cursor 1))
+  lost : SetsDown (drop 1 (5 ∷ 6 ∷ 7 ∷ [])) 1 (Ok (cursor 1))
   unfolding setting_down run
   lost = record { is = refl }
 
-  no_start : SetsDown (drop 1 (5 ∷ 0x80 ∷ [])) 1 (D.Refused NoStart)
+  no_start : SetsDown (drop 1 (5 ∷ 0x80 ∷ [])) 1 (Err NoStart)
   unfolding setting_down run
   no_start = record { is = refl }
 
-  no_byte : SetsDown (drop 1 (5 ∷ [])) 1 (D.Refused Place)
+  no_byte : SetsDown (drop 1 (5 ∷ [])) 1 (Err Place)
   unfolding setting_down run
   no_byte = record { is = refl }

@@ -14,7 +14,6 @@ use lib.ListN.{length, take, drop, length-append}
 use lib.Seq.{take-append_seam, drop-append_seam}
 use Rattle.words.specs.Answer.{gives, means_written}
 use Rattle.words.specs.declared.Count.{Count}
-use Rattle.words.specs.declared.Written.TheVariants as W
 use Rattle.words.proofs.Cases.{by_order}
 use Rattle.words.proofs.LaysExactly.{laid_there}
 use Rattle.words.proofs.OneMeaning.{apart}
@@ -26,7 +25,7 @@ use Rattle.blocks.specs.Block.{block_limit}
 use Rattle.lists.specs.Lists.{forms, list_limit}
 use Rattle.lists.specs.Strict.{joined, numbers, strict, filled}
 use Rattle.lists.specs.Promise.{WritesList}
-use Rattle.lists.specs.declared.ReadList.TheVariants as L
+use Rattle.lists.specs.declared.NotRead.TheVariants as L
 use Rattle.lists.proofs.NumbersInFront.{numbers_group, numbers_none}
 use Rattle.lists.proofs.OneList.{same_list}
 use Rattle.claims.specs.Kinds.{loop64}
@@ -34,6 +33,7 @@ use Rattle.claims.specs.OfLists.{ListBack, Of64Bits}
 use Rattle.claims.proofs.ReadGroup.{from_front}
 use Rattle.claims.proofs.RoundTrips.{lays_list, writes_list}
 use Rattle.claims.proofs.Readers.{reading_of}
+use Rattle.std.specs.Prelude.{Ok}
 
 -- a number's form is read, whatever follows it
 read_form : (v : ℕ) (rest : List ℕ) → v < 2 ^ 64 → reading u64 (form v ++ rest) ≡ gives (v, length (form v))
@@ -73,15 +73,15 @@ strict_fills s ns old short e room =
     (rw (t, e, f), rw (t, e, f))
 
 -- a list that was written stands there
-written_there : (ns before : List ℕ) (at : ℕ) (n : Count) (after : List ℕ) → WritesList ns before at (W.Bytes n) after
+written_there : (ns before : List ℕ) (at : ℕ) (n : Count) (after : List ℕ) → WritesList ns before at (Ok n) after
     → (n.0 ≡ length (forms ns)) × (take n.0 (drop at after) ≡ forms ns)
 written_there ns before at n after w =
-    by_order list_limit (length ns) (λ h. apart (ap means_written ((writes_list ns before at (W.Bytes n) after w).0.0 h).0))
-    (λ short. laid_there (forms ns) before at (W.Bytes n) after (lays_list ns before at (W.Bytes n) after w short) n refl)
+    by_order list_limit (length ns) (λ h. apart (ap means_written ((writes_list ns before at (Ok n) after w).0.0 h).0))
+    (λ short. laid_there (forms ns) before at (Ok n) after (lays_list ns before at (Ok n) after w short) n refl)
 
 pub list_back : ListBack
 list_back ns before at n after old r out words w short room p =
     let k = written_there ns before at n after w in
     let b : length (take n.0 (drop at after)) ≤ block_limit = rw k.1 (rw k.0 at short) in
     let q = strict_fills (take n.0 (drop at after)) ns old b (ap (numbers 0) k.1 ∙ numbers_forms 0 ns words) room in
-    (same_list r (L.Filled (record { 0 = length ns })) (p.answer ∙ q.0), p.leaves ∙ q.1)
+    (same_list r (Ok (record { 0 = length ns })) (p.answer ∙ q.0), p.leaves ∙ q.1)

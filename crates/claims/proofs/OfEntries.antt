@@ -9,11 +9,9 @@ use mathlib.Core.Path.{◌≡◌, refl, ap, sym, ◌∙◌, subst}
 use mathlib.Core.Logic.{⊎_elim}
 use native.Mathlib.Omega.{arith}
 use lib.ListN.{length}
-use Rattle.words.specs.Answer.{Answer, refused, because_at}
+use Rattle.words.specs.Answer.{Answer, refused, because_at, Written}
 use Rattle.words.specs.declared.Refusal.{Refusal}
 use Rattle.words.specs.declared.Refusal.TheVariants as Why
-use Rattle.words.specs.declared.Written.{Written}
-use Rattle.words.specs.declared.Written.TheVariants as W
 use Rattle.words.proofs.LaysExactly.{lays_exactly}
 use Rattle.words.proofs.Lays.{some_lays}
 use Rattle.words.proofs.OneMeaning.{apart, decided_same, same_lays}
@@ -32,11 +30,12 @@ use Rattle.claims.proofs.Begun as begun
 use Rattle.claims.proofs.EntryTries.{entry_tries}
 use Rattle.claims.proofs.EntryForms.{good_form, one_form, absurd_read, written_back, refused_unread}
 use Rattle.claims.proofs.EntryDamage.{entry_front, entry_back, entries_front, entries_back}
+use Rattle.std.specs.Prelude.{Ok, Err}
 
 entry_good : GoodRead
 entry_good s p r w x q = (
   λ e. first_of (good x) w.answer (ap means_read_entry e),
-  λ f. same_entry r (R.Good x q) (one_answered w.answer (found {v = good x} f.0 f.1)),
+  λ f. same_entry r (Ok (R.Good x q)) (one_answered w.answer (found {v = good x} f.0 f.1)),
 )
 
 bad_by : {s : List ℕ} {p : ℕ} {a : Answer (Entry × ℕ)} (why : Refusal) {q : ℕ} → Answered s p a → a ≡ refused (because_at why q)
@@ -48,13 +47,13 @@ bad_by {s} {p} why (found {v = bad} h f) e = let i = decided_same Why.Entry why 
 entry_bad : BadRead
 entry_bad s p r w why q = (
   λ e. bad_by why w.answer (ap means_read_entry e),
-  λ f. same_entry r (R.Bad why q) (one_answered w.answer (rw f.0 (found {v = bad} f.1 f.2))),
+  λ f. same_entry r (Ok (R.Bad why q)) (one_answered w.answer (rw f.0 (found {v = bad} f.1 f.2))),
 )
 
 entry_refuses : RefusesEntry
 entry_refuses s p r w why = (
   λ e. refused_by why w.answer (ap means_read_entry e),
-  λ x. same_entry r (R.Refused why) (one_answered w.answer (row x)),
+  λ x. same_entry r (Err why) (one_answered w.answer (row x)),
 )
 
 entry_of_mark : EntryOfMark
@@ -73,7 +72,7 @@ one_written (sensible_turn h v) (sensible_turn k w) = same_lays v w
 
 some_written : (x : Entry) (s : List ℕ) (at : ℕ) → (r : Written) × (out : List ℕ) × WritesEntry x s at r out
 some_written x s at =
-    ⊎_elim (λ h. (W.Refused Why.Entry, s, absurd_turn h refl refl)) (λ h. let w = some_lays (entry_form x) s at in (w.0, w.1, sensible_turn h w.2)) (absurd_or_not x.turn)
+    ⊎_elim (λ h. (Err Why.Entry, s, absurd_turn h refl refl)) (λ h. let w = some_lays (entry_form x) s at in (w.0, w.1, sensible_turn h w.2)) (absurd_or_not x.turn)
 
 pub entries : OfEntries
 entries = record {

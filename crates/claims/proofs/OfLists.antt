@@ -6,8 +6,6 @@ use mathlib.Core.Path.{sym, ◌∙◌}
 use mathlib.Core.List.{List}
 use lib.ListN.{length}
 use Rattle.words.specs.declared.Refusal.TheVariants.{TooLong}
-use Rattle.words.specs.declared.Written.{Written}
-use Rattle.words.specs.declared.Written.TheVariants as W
 use Rattle.words.proofs.Cases.{by_order}
 use Rattle.words.proofs.OneMeaning.{same_written}
 use Rattle.words.proofs.Lays.{some_lays}
@@ -19,10 +17,12 @@ use Rattle.claims.specs.OfLists.{OfLists}
 use Rattle.claims.proofs.StrictRows.{strict_rows, strict_row_kept, some_strict_row as strict-found}
 use Rattle.claims.proofs.RoundTrips.{writes_list}
 use Rattle.claims.proofs.ListBack.{list_back}
+use Rattle.std.specs.Prelude.{Err}
+use Rattle.words.specs.Answer.{Written}
 
 some_list : (ns s : List ℕ) (at : ℕ) → (r : Written) × (out : List ℕ) × WritesList ns s at r out
 some_list ns s at =
-    by_order list_limit (length ns) (λ h. (W.Refused TooLong, s, list_too_long ns s at h))
+    by_order list_limit (length ns) (λ h. (Err TooLong, s, list_too_long ns s at h))
     (λ h. let f = some_lays (forms ns) s at in (f.0, f.1, list_laid ns s at h f.2))
 
 pub lists : OfLists

@@ -15,11 +15,11 @@ use Rattle.words.proofs.OneMeaning.{apart, refused_same}
 use Rattle.lists.specs.Lists.{list_limit}
 use Rattle.phrases.specs.Grammar.{Phrase, phrase, sentence, nil, cons, Item, leaf, branch, none, more, Good, sentences}
 use Rattle.phrases.specs.Promise.{PhraseRow, Phrased, row, fills, means_read_phrase}
-use Rattle.phrases.specs.declared.ReadPhrase.TheVariants.{Filled, Refused}
 use Rattle.phrases.proofs.OneReading.{one_item}
 use Rattle.phrases.proofs.OnePhrase.{one_phrased, same_phrase, some_phrase}
 use Rattle.claims.proofs.PhraseSpelled.{phrase_spelled, no_front}
 use Rattle.claims.specs.OfPhrases.{FillsPhrase, LeavesSlice, RefusesPhrase, inside, NestsTo8, EmptyPhrases, OfPhrases}
+use Rattle.std.specs.Prelude.{Ok, Err}
 
 record FilledBy (s old : List ℕ) (n : ℕ) (out : List ℕ) : Type 0 where
   says : Phrase
@@ -42,7 +42,7 @@ refused_by (fills h p x f) e = apart e
 phrase_fills : FillsPhrase
 phrase_fills s old r out q n = (
   λ e. let f = filled_by q.answer (ap means_read_phrase e) in (f.says, f.good, f.short, f.count, f.enough),
-  λ f. same_phrase r (Filled n) ((one_phrased q.answer (fills f.2 f.0 f.1 (omega (arith, f.3, f.4)))).0 ∙ ap gives (sym f.3)),
+  λ f. same_phrase r (Ok n) ((one_phrased q.answer (fills f.2 f.0 f.1 (omega (arith, f.3, f.4)))).0 ∙ ap gives (sym f.3)),
 )
 
 phrase_leaves : LeavesSlice
@@ -55,7 +55,7 @@ phrase_leaves s old r out q = (
 phrase_refuses : RefusesPhrase
 phrase_refuses s old r out q why = (
   λ e. (refused_by q.answer (ap means_read_phrase e)).0,
-  λ x. same_phrase r (Refused why) (one_phrased q.answer (row x)).0,
+  λ x. same_phrase r (Err why) (one_phrased q.answer (row x)).0,
 )
 
 nested : (k d : ℕ) → k ≤ d → (p : Phrase) × Item d (inside k) p []

@@ -21,7 +21,6 @@ use Rattle.blocks.specs.Places.{placed, listed, from, less}
 use Rattle.blocks.specs.Rows.{Least, SetDownRefused}
 use Rattle.blocks.specs.Rows.SetDownRefused.{too_long, past, no_start}
 use Rattle.blocks.specs.Readings.{Block}
-use Rattle.blocks.specs.declared.SetDown.TheVariants as D
 use Rattle.blocks.proofs.FromStart.{front_start}
 use Rattle.blocks.proofs.Places.{high_from, from_placed, begins_from, less_placed}
 use Rattle.blocks.proofs.SetDownRows.{set_down_rows, not_before, start_there}
@@ -29,6 +28,7 @@ use Rattle.blocks.proofs.Readings.{reads_exactly, as_groups}
 use Rattle.claims.specs.OfBlocks.{ReaderFrom, ReaderSetDown}
 use Rattle.claims.specs.OfDamage.{FrontLost, CopyRefused}
 use Rattle.claims.specs.OfDamage.CopyRefused.{above_limit, no_byte, all_high}
+use Rattle.std.specs.Prelude.{Ok, Err}
 
 pub reader_from : ReaderFrom
 reader_from f s p l block k = as_groups f (from_placed s p k) (reads_exactly f s block p l k)
@@ -69,10 +69,10 @@ none_low s p none =
 pub reader_set_down : ReaderSetDown
 reader_set_down f s p bytes = (
   λ c l a.
-      let w = (set_down_rows s p (D.At c)).0 a in
+      let w = (set_down_rows s p (Ok c)).0 a in
       let k : Least s p c.place.0 = w.1 in
       as_groups f (settled_groups s p c.place.0 k) (reads_exactly f s (record { bytes = bytes; short = w.0 }) c.place.0 l k.start),
-  λ a. elim ((set_down_rows s p (D.Refused NoStart)).0 a) [ no_start f here none ↦ high_from s p (none_low s p (λ q l. none q (omega arith))) ],
+  λ a. elim ((set_down_rows s p (Err NoStart)).0 a) [ no_start f here none ↦ high_from s p (none_low s p (λ q l. none q (omega arith))) ],
 )
 
 -- a start behind place 0 of what is left is a start of the whole
@@ -100,11 +100,11 @@ front_lost f o k bytes = (
   λ c l a.
       let s = drop k o in
       let q = c.place.0 in
-      let w = (set_down_rows s 1 (D.At c)).0 a in
+      let w = (set_down_rows s 1 (Ok c)).0 a in
       let m : Least s 1 c.place.0 = w.1 in
       let block : Block s = record { bytes = λ i. rw (get_or-drop k o i 0) (bytes (k + i)); short = w.0 } in
       let e : less k (from (k + q) (listed o)) ≡ placed q (cut (drop q s)).groups =
       ap (less k) (from_placed o (k + q) (start_behind o k q m.from m.start)) ∙ less_placed k q (cut (drop (k + q) o)).groups ∙ rw (drop-drop q k o) in
       as_groups f e (reads_exactly f s block q l m.start),
-  λ why a. copy_refused o k why ((set_down_rows (drop k o) 1 (D.Refused why)).0 a),
+  λ why a. copy_refused o k why ((set_down_rows (drop k o) 1 (Err why)).0 a),
 )

@@ -33,17 +33,15 @@ use Rattle.groups.proofs.Rows.{due_kept}
 use Rattle.groups.proofs.FromWalk.{Sound}
 use Rattle.groups.proofs.Stands.{Stands, stands_read}
 use Rattle.uleb128.specs.Unsigned as unsigned
-use Rattle.uleb128.specs.declared.ReadU64.TheVariants as R64
-use Rattle.uleb128.specs.declared.ReadU32.TheVariants as R32
 use Rattle.uleb128.proofs.Widths as unsigned-widths
 use Rattle.uleb128.proofs.ReadsForms.{Under, read_begins, begins_read}
-use Rattle.sleb128.specs.declared.ReadI64.TheVariants as RI64
 use Rattle.sleb128.proofs.Widths as signed-widths
 use Rattle.sleb128.proofs.ReadsForms as signed-exactly
 use Rattle.claims.specs.Kinds.{Kind, loop64, recursive64, unsigned32, signed64, Value, Reply, number, refuse, ReadsAs, width, form, OfWidth}
 use Rattle.claims.specs.Table.{Row}
 use Rattle.claims.specs.OfNumbers.{Accepts, Refuses, Excludes, Exhausts}
 use Rattle.claims.proofs.TableRows.{row_refused, row_or_number}
+use Rattle.std.specs.Prelude.{Ok, Err}
 
 -- a width's readings are the forms of its numbers
 pub record Reading {A : Type 0} (w : Width A) (form : A → List ℕ) (OfWidth : A → Type 0) : Type 0 where
@@ -106,14 +104,14 @@ refusal_says signed64 s at why p = due_is
 reply_cases : {X : Type 0} (k : Kind) (s : List ℕ) (at : ℕ) (r : Reply k) → ReadsAs k s at r
     → ((v : Value k) (n : Count) → r ≡ number k v n → read (width k) s at ≡ gives (v, n.0) → X)
     → ((why : Refusal) (p : Place) → r ≡ refuse k why p → read (width k) s at ≡ refused (because_at why p.0) → X) → X
-reply_cases loop64 s at (R64.Number v n) p value fault = value v n refl (sym p.is)
-reply_cases loop64 s at (R64.Refused why q) p value fault = fault why q refl (sym p.is)
-reply_cases recursive64 s at (R64.Number v n) p value fault = value v n refl (sym p.is)
-reply_cases recursive64 s at (R64.Refused why q) p value fault = fault why q refl (sym p.is)
-reply_cases unsigned32 s at (R32.Number v n) p value fault = value v n refl (sym p.is)
-reply_cases unsigned32 s at (R32.Refused why q) p value fault = fault why q refl (sym p.is)
-reply_cases signed64 s at (RI64.Number v n) p value fault = value v n refl (sym p.is)
-reply_cases signed64 s at (RI64.Refused why q) p value fault = fault why q refl (sym p.is)
+reply_cases loop64 s at (Ok (v, n)) p value fault = value v n refl (sym p.is)
+reply_cases loop64 s at (Err (record { 0 = why; 1 = q })) p value fault = fault why q refl (sym p.is)
+reply_cases recursive64 s at (Ok (v, n)) p value fault = value v n refl (sym p.is)
+reply_cases recursive64 s at (Err (record { 0 = why; 1 = q })) p value fault = fault why q refl (sym p.is)
+reply_cases unsigned32 s at (Ok (v, n)) p value fault = value v n refl (sym p.is)
+reply_cases unsigned32 s at (Err (record { 0 = why; 1 = q })) p value fault = fault why q refl (sym p.is)
+reply_cases signed64 s at (Ok (v, n)) p value fault = value v n refl (sym p.is)
+reply_cases signed64 s at (Err (record { 0 = why; 1 = q })) p value fault = fault why q refl (sym p.is)
 
 -- an answer and what it says
 module _ (k : Kind) (s : List ℕ) (at : ℕ) where

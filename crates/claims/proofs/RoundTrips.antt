@@ -17,8 +17,6 @@ use lib.ListN.{length}
 use Rattle.words.specs.Lays.{Lays}
 use Rattle.words.specs.declared.Count.{Count}
 use Rattle.words.specs.declared.Refusal.TheVariants.{TooLong}
-use Rattle.words.specs.declared.Written.{Written}
-use Rattle.words.specs.declared.Written.TheVariants as W
 use Rattle.words.proofs.Cases.{by_order}
 use Rattle.words.proofs.LaysExactly.{lays_exactly}
 use Rattle.words.proofs.OneMeaning.{same_written}
@@ -31,6 +29,8 @@ use Rattle.claims.specs.OfNumbers.{Writes, WriteRead, ReadWrite, MoreBehind, Som
 use Rattle.claims.specs.OfLists.{WritesLists}
 use Rattle.claims.proofs.Readers.{reading_of, number_says, read_number}
 use Rattle.claims.proofs.Begun.{taken, behind, lays_back, laid_begins, refused_by}
+use Rattle.std.specs.Prelude.{Err}
+use Rattle.words.specs.Answer.{Written}
 
 -- each writer lays its form down
 pub lays_form : (k : Kind) (v : Value k) {s out : List ℕ} {at : ℕ} {r : Written} → WritesAs k v s at r out → Lays (form k v) s at r out
@@ -52,7 +52,7 @@ pub writes_list : WritesLists
 writes_list ns before at r after w = (
   (
     λ h. let t = lt-ltb list_limit (length ns) h in
-        (same_written r (W.Refused TooLong) (w.answer ∙ rw t), w.leaves ∙ rw t),
+        (same_written r (Err TooLong) (w.answer ∙ rw t), w.leaves ∙ rw t),
     λ e. by_order list_limit (length ns) (λ h. h) (λ h. absurd (omega (arith, refused_by (lays_list ns before at r after w h) TooLong e.0))),
   ),
   λ h. lays_exactly (forms ns) before at r after (lays_list ns before at r after w h),

@@ -17,7 +17,6 @@ use lib.IntN.{pos}
 use Rattle.words.specs.Lays.{writing, laid}
 use Rattle.words.specs.declared.Count.{Count}
 use Rattle.words.specs.declared.Refusal.TheVariants.{Slip}
-use Rattle.words.specs.declared.Written.TheVariants as W
 use Rattle.words.proofs.Cases.{clash}
 use Rattle.groups.specs.Group.{Bytes}
 use Rattle.slips.specs.Good.{good_word, good_words, is_in_order, good}
@@ -25,10 +24,10 @@ use Rattle.slips.specs.Slip.{little, judged, bodied, slip, slip_at}
 use Rattle.slips.specs.Promise.{means_setting, F32, ReadsSetting, WritesSetting, Within, LiesInRange}
 use Rattle.slips.specs.declared.Range.{Range}
 use Rattle.slips.specs.declared.Setting.TheVariants as S
-use Rattle.slips.specs.declared.ReadSetting.TheVariants as R
 use Rattle.slips.proofs.Lies.{lies_above, lies_under}
 use Rattle.claims.specs.OfSlips.{Good}
 use Rattle.claims.proofs.SlipGood.{good_says}
+use Rattle.std.specs.Prelude.{Ok, Err}
 
 abbrev one : Float
 one = fin false 1 (pos 0)
@@ -45,7 +44,7 @@ slip_of_one = 1 ∷ 0 ∷ 0 ∷ 0x80 ∷ 0x3f ∷ []
 abbrev five : Count
 five = record { 0 = 5 }
 
-written : WritesSetting (S.Torque one) (9 ∷ 9 ∷ 9 ∷ 9 ∷ 9 ∷ []) 0 (W.Bytes five) slip_of_one
+written : WritesSetting (S.Torque one) (9 ∷ 9 ∷ 9 ∷ 9 ∷ 9 ∷ []) 0 (Ok five) slip_of_one
 unfolding to_bits size good_word good_words is_in_order good writing laid
 written = record { answer = refl; leaves = refl }
 
@@ -53,7 +52,7 @@ one_f32 : F32 (S.Torque one)
 unfolding fits
 one_f32 = tt
 
-read_back : ReadsSetting slip_of_one 0 (R.Setting (S.Torque one) five)
+read_back : ReadsSetting slip_of_one 0 (Ok ((S.Torque one), five))
 unfolding to_bits size good_word good_words is_in_order good little judged bodied slip slip_at
 read_back = record { answer = refl; f32 = one_f32 }
 
@@ -73,7 +72,7 @@ minus_bad : Good (means_setting (S.Torque minus)) → ⊥
 unfolding to_bits size good_word good_words is_in_order good
 minus_bad g = clash refl ((good_says (means_setting (S.Torque minus))).1 g)
 
-unknown : ReadsSetting (4 ∷ []) 0 (R.Refused Slip)
+unknown : ReadsSetting (4 ∷ []) 0 (Err Slip)
 unfolding slip slip_at
 unknown = record { answer = refl; f32 = tt }
 

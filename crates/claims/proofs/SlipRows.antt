@@ -27,7 +27,6 @@ use Rattle.groups.specs.Group.{Bytes}
 use Rattle.slips.specs.Good.{good}
 use Rattle.slips.specs.Slip.{measures, body, body_length, form, words, judged, bodied, slip, slip_at}
 use Rattle.slips.specs.Promise.{means_read_setting}
-use Rattle.slips.specs.declared.ReadSetting.TheVariants as R
 use Rattle.slips.proofs.Spelled.{length_body, words_body, words_many, words_bits, body_words}
 use Rattle.slips.proofs.ByTests.{kind_asked, body_asked, BodyAt, by_tests}
 use Rattle.slips.proofs.OneSetting.{same_read}
@@ -35,6 +34,7 @@ use Rattle.claims.specs.OfSlips.{Words, Good, SlipRow, past, no_byte, unknown_ki
 use Rattle.claims.specs.OfSlips.{AcceptsSlip, RefusesSlip, ExcludesSlip, ExhaustsSlip}
 use Rattle.claims.proofs.Begun.{byte_here}
 use Rattle.claims.proofs.SlipGood.{never_bad, bad_words}
+use Rattle.std.specs.Prelude.{Err}
 
 module _ (s : List ℕ) (at : ℕ) where
   -- the words of a body at the place
@@ -114,7 +114,7 @@ slip_accepts s at r bytes p v n = (λ e. given_begins s at bytes v n (sym p.answ
 pub slip_refuses : RefusesSlip
 slip_refuses s at r bytes p why = (
   λ e. refused_row s at bytes why (sym p.answer ∙ ap means_read_setting e),
-  λ row. same_read r (R.Refused why) p.f32 tt (p.answer ∙ row_refused s at why row),
+  λ row. same_read r (Err why) p.f32 tt (p.answer ∙ row_refused s at why row),
 )
 
 pub slip_excludes : ExcludesSlip

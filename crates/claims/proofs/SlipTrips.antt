@@ -14,12 +14,10 @@ use mathlib.Core.Path.{◌≡◌, refl, ap, sym, ◌∙◌, subst}
 use native.Mathlib.Omega.{arith}
 use lib.ListN.{length, drop}
 use lib.Seq.{drop-append_seam}
-use Rattle.words.specs.Answer.{gives, means_written}
+use Rattle.words.specs.Answer.{gives, means_written, Written}
 use Rattle.words.specs.Lays.{Lays}
 use Rattle.words.specs.declared.Count.{Count}
 use Rattle.words.specs.declared.Refusal.TheVariants.{Slip}
-use Rattle.words.specs.declared.Written.{Written}
-use Rattle.words.specs.declared.Written.TheVariants as W
 use Rattle.words.proofs.Cases.{by_test}
 use Rattle.words.proofs.LaysExactly.{lays_exactly}
 use Rattle.words.proofs.OneMeaning.{same_written, apart, given_value}
@@ -28,13 +26,13 @@ use Rattle.groups.specs.Group.{Bytes}
 use Rattle.slips.specs.Slip.{form, good_setting, slip_at}
 use Rattle.slips.specs.Promise.{means_setting, means_read_setting, OfF32, ReadsSetting, WritesSetting}
 use Rattle.slips.specs.declared.Setting.{Setting}
-use Rattle.slips.specs.declared.ReadSetting.TheVariants as R
 use Rattle.slips.proofs.OneSetting.{same_read}
 use Rattle.slips.proofs.Spelled.{length_body}
 use Rattle.claims.specs.OfSlips.{Good, SlipRow, unknown_kind, bad, WritesSlip, SlipWriteRead, SlipReadWrite, SlipSpelled, OneSlip, SlipLength, SlipBehind}
 use Rattle.claims.proofs.Begun.{byte_here, more_there, spelled, behind, lays_back, laid_begins, refused_by}
 use Rattle.claims.proofs.SlipGood.{good_says}
 use Rattle.claims.proofs.SlipRows.{row_refused, begins_given, given_begins, refused_row}
+use Rattle.std.specs.Prelude.{Ok, Err}
 
 module _ (v : Setting) {s out : List ℕ} {at : ℕ} {r : Written} (w : WritesSetting v s at r out) where
   lays_good : Good (means_setting v) → Lays (form (means_setting v)) s at r out
@@ -42,10 +40,10 @@ module _ (v : Setting) {s out : List ℕ} {at : ℕ} {r : Written} (w : WritesSe
       let t = (good_says (means_setting v)).1 g in
       record { answer = w.answer ∙ rw t; leaves = w.leaves ∙ rw t }
 
-  refuses_bad : good_setting (means_setting v) ≡ false → (r ≡ W.Refused Slip) × (out ≡ s)
-  refuses_bad t = (same_written r (W.Refused Slip) (w.answer ∙ rw t), w.leaves ∙ rw t)
+  refuses_bad : good_setting (means_setting v) ≡ false → (r ≡ Err Slip) × (out ≡ s)
+  refuses_bad t = (same_written r (Err Slip) (w.answer ∙ rw t), w.leaves ∙ rw t)
 
-  good_written : (n : Count) → r ≡ W.Bytes n → Good (means_setting v)
+  good_written : (n : Count) → r ≡ Ok n → Good (means_setting v)
   good_written n e =
       by_test (good_setting (means_setting v)) (good_says (means_setting v)).0 (λ t. apart (ap means_written (sym e ∙ (refuses_bad t).0)))
 
@@ -62,10 +60,10 @@ pub slip_write_read : SlipWriteRead
 slip_write_read v before at n after r f32 w p =
     let g = good_written v w n refl in
     let b = laid_begins form Good (means_setting v) n g (lays_good v w g) in
-    same_read r (R.Setting v n) p.f32 f32 (p.answer ∙ begins_given after at (means_setting v) n.0 b)
+    same_read r (Ok (v, n)) p.f32 f32 (p.answer ∙ begins_given after at (means_setting v) n.0 b)
 
 -- where a setting was read the bytes begin with its form
-stands : (s : List ℕ) (at : ℕ) (v : Setting) (n : Count) → Bytes s → ReadsSetting s at (R.Setting v n) → Begins form Good s at (means_setting v) n.0
+stands : (s : List ℕ) (at : ℕ) (v : Setting) (n : Count) → Bytes s → ReadsSetting s at (Ok (v, n)) → Begins form Good s at (means_setting v) n.0
 stands s at v n bytes p = given_begins s at bytes (means_setting v) n.0 (sym p.answer)
 
 pub slip_read_write : SlipReadWrite
@@ -94,7 +92,7 @@ row_behind s more at (bad k ws rest e h p b) = bad k ws (rest ++ more) (more_the
 pub slip_behind : SlipBehind
 slip_behind s more at q r bytes p o = (
   λ v n e. let b = stands s at v n bytes (subst (ReadsSetting s at) e p) in
-      same_read r (R.Setting v n) o.f32 (subst OfF32 e p.f32) (o.answer ∙ begins_given (s ++ more) at (means_setting v) n.0 (behind b more)),
+      same_read r (Ok (v, n)) o.f32 (subst OfF32 e p.f32) (o.answer ∙ begins_given (s ++ more) at (means_setting v) n.0 (behind b more)),
   λ e. let row = refused_row s at bytes Slip (sym p.answer ∙ ap means_read_setting e) in
-      same_read r (R.Refused Slip) o.f32 tt (o.answer ∙ row_refused (s ++ more) at Slip (row_behind s more at row)),
+      same_read r (Err Slip) o.f32 tt (o.answer ∙ row_refused (s ++ more) at Slip (row_behind s more at row)),
 )

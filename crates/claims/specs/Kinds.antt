@@ -8,23 +8,18 @@
 --   TakesAs       what its length promises: `length_u64` (for both of 64 bits), `length_u32`, `length_i64`
 --   width, form   its row of document 01's table, and the shortest form of a number
 --   OfWidth       the numbers of the width
-use Rattle.std.specs.Prelude.{ℕ, ◌^◌, ◌<◌, List, ℤ, pos, neg_ℤ, ◌≤ℤ◌, ◌<ℤ◌}
+use Rattle.std.specs.Prelude.{ℕ, ◌^◌, ◌<◌, List, ℤ, pos, neg_ℤ, ◌≤ℤ◌, ◌<ℤ◌, Ok, Err}
 use Rattle.words.specs.declared.Count.{Count}
 use Rattle.words.specs.declared.Place.{Place}
 use Rattle.words.specs.declared.Refusal.{Refusal}
-use Rattle.words.specs.declared.Written.{Written}
 use Rattle.groups.specs.Width.{Width}
 use Rattle.uleb128.specs.Unsigned as unsigned
 use Rattle.uleb128.specs.Promise.{ReadsU64, ReadsU32, WritesU64, WritesU32, LengthU64, LengthU32}
-use Rattle.uleb128.specs.declared.ReadU64.{ReadU64}
-use Rattle.uleb128.specs.declared.ReadU64.TheVariants as R64
-use Rattle.uleb128.specs.declared.ReadU32.{ReadU32}
-use Rattle.uleb128.specs.declared.ReadU32.TheVariants as R32
 use Rattle.uleb128_rec.specs.Promise.{ReadsU64Rec, WritesU64Rec}
 use Rattle.sleb128.specs.Signed as signed
 use Rattle.sleb128.specs.Promise.{ReadsI64, WritesI64, LengthI64}
-use Rattle.sleb128.specs.declared.ReadI64.{ReadI64}
-use Rattle.sleb128.specs.declared.ReadI64.TheVariants as RI64
+use Rattle.words.specs.Answer.{Reading}
+use Rattle.words.specs.Answer.{Written}
 
 pub data Kind : Type 0 where
   loop64 recursive64 unsigned32 signed64 : Kind
@@ -36,22 +31,22 @@ Value unsigned32 = ℕ
 Value signed64 = ℤ
 
 abbrev pub Reply : Kind → Type 0
-Reply loop64 = ReadU64
-Reply recursive64 = ReadU64
-Reply unsigned32 = ReadU32
-Reply signed64 = ReadI64
+Reply loop64 = Reading ℕ
+Reply recursive64 = Reading ℕ
+Reply unsigned32 = Reading ℕ
+Reply signed64 = Reading ℤ
 
 abbrev pub number : (k : Kind) → Value k → Count → Reply k
-number loop64 v n = R64.Number v n
-number recursive64 v n = R64.Number v n
-number unsigned32 v n = R32.Number v n
-number signed64 v n = RI64.Number v n
+number loop64 v n = Ok (v, n)
+number recursive64 v n = Ok (v, n)
+number unsigned32 v n = Ok (v, n)
+number signed64 v n = Ok (v, n)
 
 abbrev pub refuse : (k : Kind) → Refusal → Place → Reply k
-refuse loop64 why p = R64.Refused why p
-refuse recursive64 why p = R64.Refused why p
-refuse unsigned32 why p = R32.Refused why p
-refuse signed64 why p = RI64.Refused why p
+refuse loop64 why p = Err (record { 0 = why; 1 = p })
+refuse recursive64 why p = Err (record { 0 = why; 1 = p })
+refuse unsigned32 why p = Err (record { 0 = why; 1 = p })
+refuse signed64 why p = Err (record { 0 = why; 1 = p })
 
 abbrev pub ReadsAs : (k : Kind) → List ℕ → ℕ → Reply k → Type 0
 ReadsAs loop64 s at r = ReadsU64 s at r

@@ -6,7 +6,7 @@
 --   CopyRefused           what holds where a copy whose front is lost is refused
 --   FrontLost             what a reader gives of such a copy, or why it is refused
 --   OfDamage              all of it
-use Rattle.std.specs.Prelude.{ℕ, ◌+◌, ◌≤◌, ◌<◌, ◌≡◌, List, [], ◌++◌, ◌↔◌, length, drop}
+use Rattle.std.specs.Prelude.{ℕ, ◌+◌, ◌≤◌, ◌<◌, ◌≡◌, List, [], ◌++◌, ◌↔◌, length, drop, Result, Ok, Err}
 use Rattle.words.specs.Answer.{Answer}
 use Rattle.words.specs.declared.Count.{Count}
 use Rattle.words.specs.declared.Place.{Place}
@@ -22,13 +22,12 @@ use Rattle.blocks.specs.declared.Rule.{Rule}
 use Rattle.blocks.specs.declared.Step.{Step}
 use Rattle.blocks.specs.declared.Step.TheVariants as S
 use Rattle.blocks.specs.declared.Cursor.{Cursor}
-use Rattle.blocks.specs.declared.SetDown.TheVariants as D
 
 -- Every group that ends before the stretch stands and reads as before, by any rule, and no other group appears there.
 abbrev pub Front : Type 0
 Front = (a x y b : List ℕ) (p : ℕ) (g : List ℕ) → p + length g ≤ length a →
     (GroupAt (a ++ x ++ b) p g ↔ GroupAt (a ++ y ++ b) p g)
-    × ((rule : Rule) (r r' : Step) → Block (a ++ x ++ b) → Block (a ++ y ++ b) → GroupAt (a ++ x ++ b) p g
+    × ((rule : Rule) (r r' : Result Step Refusal) → Block (a ++ x ++ b) → Block (a ++ y ++ b) → GroupAt (a ++ x ++ b) p g
     → Steps rule (a ++ x ++ b) p r → Steps rule (a ++ y ++ b) p r' → r ≡ r')
 
 -- Every group that begins after the first byte below 128 past the stretch stands and reads as before, by any rule, its place moved only by
@@ -36,15 +35,15 @@ Front = (a x y b : List ℕ) (p : ℕ) (g : List ℕ) → p + length g ≤ lengt
 abbrev pub Back : Type 0
 Back = (a x y b : List ℕ) (p p' : ℕ) (g : List ℕ) → length (a ++ x) + run b < p → p' + length x ≡ p + length y →
     (GroupAt (a ++ x ++ b) p g ↔ GroupAt (a ++ y ++ b) p' g)
-    × ((rule : Rule) (r r' : Step) → Block (a ++ x ++ b) → Block (a ++ y ++ b) → GroupAt (a ++ x ++ b) p g
+    × ((rule : Rule) (r r' : Result Step Refusal) → Block (a ++ x ++ b) → Block (a ++ y ++ b) → GroupAt (a ++ x ++ b) p g
     → Steps rule (a ++ x ++ b) p r → Steps rule (a ++ y ++ b) p' r' → (means_step r ≡ says_by rule g p) × (means_step r' ≡ says_by rule g p'))
 
 -- Where such a group is a gap, the byte that decided it moves with it, by the change in length and no more; reason and count are as before.
 abbrev pub GapMoves : Type 0
 GapMoves = (a x y b : List ℕ) (p p' : ℕ) → length (a ++ x) + run b < p → p' + length x ≡ p + length y
-    → (rule : Rule) (why : Refusal) (at : Place) (n : Count) (c : Cursor) (r' : Step) → Block (a ++ x ++ b) → Block (a ++ y ++ b)
-    → Steps rule (a ++ x ++ b) p (S.Gap why at n c) → Steps rule (a ++ y ++ b) p' r'
-    → (at' : Place) × (c' : Cursor) × (r' ≡ S.Gap why at' n c') × (at'.0 + length x ≡ at.0 + length y)
+    → (rule : Rule) (why : Refusal) (at : Place) (n : Count) (c : Cursor) (r' : Result Step Refusal) → Block (a ++ x ++ b) → Block (a ++ y ++ b)
+    → Steps rule (a ++ x ++ b) p (Ok (S.Gap (record { 0 = why; 1 = at }) n c)) → Steps rule (a ++ y ++ b) p' r'
+    → (at' : Place) × (c' : Cursor) × (r' ≡ Ok (S.Gap (record { 0 = why; 1 = at' }) n c')) × (at'.0 + length x ≡ at.0 + length y)
 
 -- All that a reader gives of the old block and of the new one: what ends before the stretch is the same list, if the rules chosen there are
 -- the same. The byte that decided a gap is counted from its group.
@@ -73,9 +72,9 @@ pub data CopyRefused (original : List ℕ) (k : ℕ) : Refusal → Type 0 where
 -- their places less k. Where set-down refuses, there is none to give, unless the copy is above the limit.
 abbrev pub FrontLost : Type 0
 FrontLost = (f : ℕ → Rule) (original : List ℕ) (k : ℕ) → Bytes original →
-    ((c : Cursor) (l : List (ℕ × ℕ × Answer Val)) → SetsDown (drop k original) 1 (D.At c)
+    ((c : Cursor) (l : List (ℕ × ℕ × Answer Val)) → SetsDown (drop k original) 1 (Ok c)
     → ReaderGives f (drop k original) c.place.0 l ↔ (l ≡ readings f (less k (from (k + c.place.0) (listed original)))))
-    × ((why : Refusal) → SetsDown (drop k original) 1 (D.Refused why) → CopyRefused original k why)
+    × ((why : Refusal) → SetsDown (drop k original) 1 (Err why) → CopyRefused original k why)
 
 pub record OfDamage : Type 0 where
   pub damage_front : Front

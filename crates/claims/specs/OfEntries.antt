@@ -20,15 +20,13 @@
 --   EntriesFront, EntriesBack   what a reader gives of the whole block: the entries in each of the two parts are the same list
 --   EntriesMet, EntriesOne      an answer meets each promise, and no second
 --   OfEntries                   all of it
-use Rattle.std.specs.Prelude.{ℕ, ◌+◌, ◌≤◌, ◌<◌, ◌≡◌, List, [], ◌∷◌, ◌++◌, ◌↔◌, pos, neg_ℤ, length, take, drop}
-use Rattle.words.specs.Answer.{refused, because_at}
+use Rattle.std.specs.Prelude.{ℕ, ◌+◌, ◌≤◌, ◌<◌, ◌≡◌, List, [], ◌∷◌, ◌++◌, ◌↔◌, pos, neg_ℤ, length, take, drop, Ok, Err}
+use Rattle.words.specs.Answer.{refused, because_at, Written}
 use Rattle.words.specs.Lays.{LaysExactly}
 use Rattle.words.specs.declared.Count.{Count}
 use Rattle.words.specs.declared.Place.{Place}
 use Rattle.words.specs.declared.Refusal.{Refusal}
 use Rattle.words.specs.declared.Refusal.TheVariants as Why
-use Rattle.words.specs.declared.Written.{Written}
-use Rattle.words.specs.declared.Written.TheVariants as W
 use Rattle.groups.specs.Group.{run, Bytes}
 use Rattle.blocks.specs.Block.{read_by, block_limit}
 use Rattle.blocks.specs.GroupsAndTail.{GroupAt}
@@ -47,17 +45,17 @@ use Rattle.claims.specs.Kinds.{loop64, signed64, OfWidth}
 -- A good entry is given exactly when the block is within the limit, and the entry of the least mark at the place or later is good, says that
 -- and ends there;
 abbrev pub GoodRead : Type 0
-GoodRead = (s : List ℕ) (p : ℕ) (r : ReadEntry) → ReadsEntry s p r
-    → (x : Entry) (q : Place) → (r ≡ R.Good x q) ↔ ((length s ≤ block_limit) × FirstEntry s p (good x) q.0)
+GoodRead = (s : List ℕ) (p : ℕ) (r : Result ReadEntry Refusal) → ReadsEntry s p r
+    → (x : Entry) (q : Place) → (r ≡ Ok (R.Good x q)) ↔ ((length s ≤ block_limit) × FirstEntry s p (good x) q.0)
 
 -- 10, with the place where it ends, exactly when it is bad;
 abbrev pub BadRead : Type 0
-BadRead = (s : List ℕ) (p : ℕ) (r : ReadEntry) → ReadsEntry s p r
-    → (why : Refusal) (q : Place) → (r ≡ R.Bad why q) ↔ ((why ≡ Why.Entry) × (length s ≤ block_limit) × FirstEntry s p bad q.0)
+BadRead = (s : List ℕ) (p : ℕ) (r : Result ReadEntry Refusal) → ReadsEntry s p r
+    → (why : Refusal) (q : Place) → (r ≡ Ok (R.Bad why q)) ↔ ((why ≡ Why.Entry) × (length s ≤ block_limit) × FirstEntry s p bad q.0)
 
 -- and each other refusal exactly when its row holds.
 abbrev pub RefusesEntry : Type 0
-RefusesEntry = (s : List ℕ) (p : ℕ) (r : ReadEntry) → ReadsEntry s p r → (why : Refusal) → (r ≡ R.Refused why) ↔ EntryRefused s p why
+RefusesEntry = (s : List ℕ) (p : ℕ) (r : Result ReadEntry Refusal) → ReadsEntry s p r → (why : Refusal) → (r ≡ Err why) ↔ EntryRefused s p why
 
 -- Bytes to try: behind a mark, 01 02 7f is a good entry, and its turn is -1; with a tail behind it, or a fourth group, or without its third, it is
 -- bad. Turns of 400 and of -400 pass, 401 and -401 don't. In 81 80 00 no mark stands.
@@ -87,26 +85,26 @@ OneForm = (x y : Entry) → OfWidths x → OfWidths y → entry_form x ≡ entry
 
 -- An entry whose numbers all read, with an absurd turn, is refused by 10, with the place where it ends.
 abbrev pub AbsurdRead : Type 0
-AbsurdRead = (s : List ℕ) (p : ℕ) (x : Entry) (r : ReadEntry) → length s ≤ block_limit → OfWidths x → Absurd x.turn
-    → EntryAt s p (entry_form x) → ReadsEntry s p r → r ≡ R.Bad Why.Entry (record { 0 = p + length (entry_form x) })
+AbsurdRead = (s : List ℕ) (p : ℕ) (x : Entry) (r : Result ReadEntry Refusal) → length s ≤ block_limit → OfWidths x → Absurd x.turn
+    → EntryAt s p (entry_form x) → ReadsEntry s p r → r ≡ Ok (R.Bad Why.Entry (record { 0 = p + length (entry_form x) }))
 
 -- The writer answers 10 and leaves every byte exactly when the turn is absurd, whatever the room. Else it answers the count and leaves exactly the
 -- entry's form at the place and all else kept, or answers 5 and leaves every byte, the latter exactly when it doesn't fit.
 abbrev pub WritesEntries : Type 0
 WritesEntries = (x : Entry) (before : List ℕ) (at : ℕ) (r : Written) (after : List ℕ) → WritesEntry x before at r after →
-    (Absurd x.turn ↔ ((r ≡ W.Refused Why.Entry) × (after ≡ before)))
+    (Absurd x.turn ↔ ((r ≡ Err Why.Entry) × (after ≡ before)))
     × ((Absurd x.turn → ⊥) → LaysExactly (entry_form x) before at r after)
 
 -- The bytes that were written, read alone, are that entry, and it ends with them.
 abbrev pub WrittenBack : Type 0
-WrittenBack = (x : Entry) (before : List ℕ) (at : ℕ) (n : Count) (after : List ℕ) (r : ReadEntry) → OfWidths x
-    → WritesEntry x before at (W.Bytes n) after → ReadsEntry (take n.0 (drop at after)) 0 r → r ≡ R.Good x (record { 0 = n.0 })
+WrittenBack = (x : Entry) (before : List ℕ) (at : ℕ) (n : Count) (after : List ℕ) (r : Result ReadEntry Refusal) → OfWidths x
+    → WritesEntry x before at (Ok n) after → ReadsEntry (take n.0 (drop at after)) 0 r → r ≡ Ok (R.Good x (record { 0 = n.0 }))
 
 -- What the writer refuses by 10 would not have read back: its form, read alone, is bad, and no bytes are read as that entry.
 abbrev pub RefusedUnread : Type 0
-RefusedUnread = (x : Entry) (before : List ℕ) (at : ℕ) (after : List ℕ) → OfWidths x → WritesEntry x before at (W.Refused Why.Entry) after →
-    ((r : ReadEntry) → ReadsEntry (entry_form x) 0 r → r ≡ R.Bad Why.Entry (record { 0 = length (entry_form x) }))
-    × ((s : List ℕ) (p : ℕ) (q : Place) → ReadsEntry s p (R.Good x q) → ⊥)
+RefusedUnread = (x : Entry) (before : List ℕ) (at : ℕ) (after : List ℕ) → OfWidths x → WritesEntry x before at (Err Why.Entry) after →
+    ((r : Result ReadEntry Refusal) → ReadsEntry (entry_form x) 0 r → r ≡ Ok (R.Bad Why.Entry (record { 0 = length (entry_form x) })))
+    × ((s : List ℕ) (p : ℕ) (q : Place) → ReadsEntry s p (Ok (R.Good x q)) → ⊥)
 
 -- Each mark opens one entry, and nothing else opens one.
 abbrev pub EntryOfMark : Type 0
@@ -125,19 +123,19 @@ MarkUnread = (rule : Rule) → read_by rule mark ≡ refused (because_at Why.Not
 abbrev pub EntryFront : Type 0
 EntryFront = (a x y b : List ℕ) (p : ℕ) (e : List ℕ) → p + length e + 2 ≤ length a →
     (EntryAt (a ++ x ++ b) p e ↔ EntryAt (a ++ y ++ b) p e)
-    × ((r r' : ReadEntry) → Block (a ++ x ++ b) → Block (a ++ y ++ b) → EntryAt (a ++ x ++ b) p e
+    × ((r r' : Result ReadEntry Refusal) → Block (a ++ x ++ b) → Block (a ++ y ++ b) → EntryAt (a ++ x ++ b) p e
     → ReadsEntry (a ++ x ++ b) p r → ReadsEntry (a ++ y ++ b) p r' → r ≡ r')
 
-pub data SameMoved (n n' : ℕ) : ReadEntry → ReadEntry → Type 0 where
-  good_moved : {x : Entry} {q q' : Place} → q'.0 + n ≡ q.0 + n' → SameMoved n n' (R.Good x q) (R.Good x q')
-  bad_moved : {q q' : Place} → q'.0 + n ≡ q.0 + n' → SameMoved n n' (R.Bad Why.Entry q) (R.Bad Why.Entry q')
+pub data SameMoved (n n' : ℕ) : Result ReadEntry Refusal → Result ReadEntry Refusal → Type 0 where
+  good_moved : {x : Entry} {q q' : Place} → q'.0 + n ≡ q.0 + n' → SameMoved n n' (Ok (R.Good x q)) (Ok (R.Good x q'))
+  bad_moved : {q q' : Place} → q'.0 + n ≡ q.0 + n' → SameMoved n n' (Ok (R.Bad Why.Entry q)) (Ok (R.Bad Why.Entry q'))
 
 -- An entry whose mark begins after the first byte below 128 past the stretch stands and reads as before, its places moved only by the change in
 -- length, and no other appears there.
 abbrev pub EntryBack : Type 0
 EntryBack = (a x y b : List ℕ) (p p' : ℕ) (e : List ℕ) → length (a ++ x) + run b < p → p' + length x ≡ p + length y →
     (EntryAt (a ++ x ++ b) p e ↔ EntryAt (a ++ y ++ b) p' e)
-    × ((r r' : ReadEntry) → Block (a ++ x ++ b) → Block (a ++ y ++ b) → EntryAt (a ++ x ++ b) p e
+    × ((r r' : Result ReadEntry Refusal) → Block (a ++ x ++ b) → Block (a ++ y ++ b) → EntryAt (a ++ x ++ b) p e
     → ReadsEntry (a ++ x ++ b) p r → ReadsEntry (a ++ y ++ b) p' r' → SameMoved (length x) (length y) r r')
 
 -- All that a reader gives of the old block and of the new one: the entries whose following marks end before the stretch are the same list,
@@ -153,12 +151,12 @@ EntriesBack = (a x y b : List ℕ) (l l' : List (ℕ × ℕ × Verdict)) → Ent
 
 -- Each promise is met by some answer, with some final content of what was lent, on every input: no claim over promises is empty.
 pub record EntriesMet : Type 0 where
-  pub read : (s : List ℕ) (p : ℕ) → Bytes s → (r : ReadEntry) × ReadsEntry s p r
+  pub read : (s : List ℕ) (p : ℕ) → Bytes s → (r : Result ReadEntry Refusal) × ReadsEntry s p r
   pub write : (x : Entry) (s : List ℕ) (at : ℕ) → (r : Written) × (out : List ℕ) × WritesEntry x s at r out
 
 -- And by no second: no second answer, and no second final content of what was lent.
 pub record EntriesOne : Type 0 where
-  pub read : (s : List ℕ) (p : ℕ) (r r' : ReadEntry) → ReadsEntry s p r → ReadsEntry s p r' → r ≡ r'
+  pub read : (s : List ℕ) (p : ℕ) (r r' : Result ReadEntry Refusal) → ReadsEntry s p r → ReadsEntry s p r' → r ≡ r'
   pub write : (x : Entry) (s : List ℕ) (at : ℕ) (r r' : Written) (out out' : List ℕ) → WritesEntry x s at r out → WritesEntry x s at r' out'
       → (r ≡ r') × (out ≡ out')
 

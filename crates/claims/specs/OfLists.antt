@@ -10,21 +10,21 @@
 --   ListBack             a list that was written, read back
 --   ListsMet, ListsOne   an answer meets each promise, and no second
 --   OfLists              all of it
-use Rattle.std.specs.Prelude.{ℕ, ◌+◌, ◌≤◌, ◌<◌, ◌^◌, ◌≡◌, List, ◌++◌, [], ◌∷◌, ◌↔◌, length, take, drop}
+use Rattle.std.specs.Prelude.{ℕ, ◌+◌, ◌≤◌, ◌<◌, ◌^◌, ◌≡◌, List, ◌++◌, [], ◌∷◌, ◌↔◌, length, take, drop, Result, Ok, Err}
 use Rattle.words.specs.Lays.{LaysExactly}
 use Rattle.words.specs.declared.Count.{Count}
 use Rattle.words.specs.declared.Refusal.TheVariants.{TooLong, End, NoRoom}
-use Rattle.words.specs.declared.Written.{Written}
-use Rattle.words.specs.declared.Written.TheVariants as W
 use Rattle.words.specs.declared.Refusal.{Refusal}
 use Rattle.groups.specs.Group.{Bytes, High, Group}
 use Rattle.uleb128.specs.Unsigned.{u64}
 use Rattle.blocks.specs.Block.{block_limit}
 use Rattle.lists.specs.Lists.{forms, list_limit}
 use Rattle.lists.specs.Promise.{WritesList, ReadsStrict}
-use Rattle.lists.specs.declared.ReadList.{ReadList}
-use Rattle.lists.specs.declared.ReadList.TheVariants as L
+use Rattle.lists.specs.declared.NotRead.TheVariants as L
 use Rattle.claims.specs.Table.{GapRow}
+use Rattle.lists.specs.declared.Numbers.{Numbers}
+use Rattle.lists.specs.declared.NotRead.{NotRead}
+use Rattle.words.specs.Answer.{Written}
 
 abbrev pub Of64Bits : List ℕ → Type 0
 Of64Bits [] = Unit {0}
@@ -44,38 +44,38 @@ pub data StrictRefused (s : List ℕ) (room : ℕ) : Refusal → Type 0 where
   no_room : length s ≤ block_limit → (ns : List ℕ) → IsForms s ns → room < length ns → StrictRefused s room NoRoom
 
 -- the numbers fill the front of the slice, and the rest is kept; or all is
-abbrev pub StrictRow : List ℕ → List ℕ → ReadList → List ℕ → Type 0
-StrictRow s old (L.Filled n) out =
+abbrev pub StrictRow : List ℕ → List ℕ → Result Numbers NotRead → List ℕ → Type 0
+StrictRow s old (Ok n) out =
     (length s ≤ block_limit) × (ns : List ℕ) × IsForms s ns × (length ns ≤ length old) × (n.0 ≡ length ns) × (out ≡ ns ++ drop (length ns) old)
-StrictRow s old (L.Faulty why p) out = (length s ≤ block_limit) × FirstFault s p.0 why × (out ≡ old)
-StrictRow s old (L.Refused why) out = StrictRefused s (length old) why × (out ≡ old)
+StrictRow s old (Err (L.Faulty (record { 0 = why; 1 = p }))) out = (length s ≤ block_limit) × FirstFault s p.0 why × (out ≡ old)
+StrictRow s old (Err (L.Refused why)) out = StrictRefused s (length old) why × (out ≡ old)
 
 -- A list of more numbers than the limit is refused by 7; any other is written as one number is, its forms one after another.
 abbrev pub WritesLists : Type 0
 WritesLists = (ns before : List ℕ) (at : ℕ) (r : Written) (after : List ℕ) → WritesList ns before at r after →
-    ((list_limit < length ns) ↔ ((r ≡ W.Refused TooLong) × (after ≡ before)))
+    ((list_limit < length ns) ↔ ((r ≡ Err TooLong) × (after ≡ before)))
     × (length ns ≤ list_limit → LaysExactly (forms ns) before at r after)
 
 -- Strict reading of what list writing wrote gives the list back, if that is within the block limit and the answer slice holds it.
 abbrev pub ListBack : Type 0
-ListBack = (ns before : List ℕ) (at : ℕ) (n : Count) (after old : List ℕ) (r : ReadList) (out : List ℕ)
-    → Of64Bits ns → WritesList ns before at (W.Bytes n) after → n.0 ≤ block_limit → length ns ≤ length old
+ListBack = (ns before : List ℕ) (at : ℕ) (n : Count) (after old : List ℕ) (r : Result Numbers NotRead) (out : List ℕ)
+    → Of64Bits ns → WritesList ns before at (Ok n) after → n.0 ≤ block_limit → length ns ≤ length old
     → ReadsStrict (take n.0 (drop at after)) old r out
-    → (r ≡ L.Filled (record { 0 = length ns })) × (out ≡ ns ++ drop (length ns) old)
+    → (r ≡ Ok (record { 0 = length ns })) × (out ≡ ns ++ drop (length ns) old)
 
 -- Each promise is met by some answer, with some final content of what was lent, on every input: no claim over promises is empty.
 pub record ListsMet : Type 0 where
-  pub strict : (s old : List ℕ) → Bytes s → (r : ReadList) × (out : List ℕ) × ReadsStrict s old r out
+  pub strict : (s old : List ℕ) → Bytes s → (r : Result Numbers NotRead) × (out : List ℕ) × ReadsStrict s old r out
   pub list : (ns s : List ℕ) (at : ℕ) → (r : Written) × (out : List ℕ) × WritesList ns s at r out
 
 -- And by no second: no second answer, and no second final content of what was lent.
 pub record ListsOne : Type 0 where
-  pub strict : (s old : List ℕ) (r r' : ReadList) (out out' : List ℕ) → ReadsStrict s old r out → ReadsStrict s old r' out' → (r ≡ r') × (out ≡ out')
+  pub strict : (s old : List ℕ) (r r' : Result Numbers NotRead) (out out' : List ℕ) → ReadsStrict s old r out → ReadsStrict s old r' out' → (r ≡ r') × (out ≡ out')
   pub list : (ns s : List ℕ) (at : ℕ) (r r' : Written) (out out' : List ℕ) → WritesList ns s at r out → WritesList ns s at r' out'
       → (r ≡ r') × (out ≡ out')
 
 pub record OfLists : Type 0 where
-  pub strict_rows : (s old : List ℕ) (r : ReadList) (out : List ℕ) → Bytes s → ReadsStrict s old r out ↔ StrictRow s old r out
+  pub strict_rows : (s old : List ℕ) (r : Result Numbers NotRead) (out : List ℕ) → Bytes s → ReadsStrict s old r out ↔ StrictRow s old r out
   pub writes_list : WritesLists
   pub list_back : ListBack
   pub met : ListsMet

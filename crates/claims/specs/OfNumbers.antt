@@ -10,17 +10,15 @@
 --   SpecParse                                        the source's own definition
 --   NumbersMet, NumbersOne                           an answer meets each promise, and no second
 --   OfNumbers                                        all of it
-use Rattle.std.specs.Prelude.{ℕ, ◌+◌, ◌-◌, ◌*◌, ◌/◌, ◌%◌, ◌^◌, ◌≤◌, ◌<◌, ◌≡◌, List, [], ◌∷◌, ◌++◌, Bool, true, ◌↔◌, ◌⊎◌, ℤ, pos, neg_ℤ, ◌+ℤ◌, ◌≤ℤ◌, ◌<ℤ◌, length, get_or, take}
+use Rattle.std.specs.Prelude.{ℕ, ◌+◌, ◌-◌, ◌*◌, ◌/◌, ◌%◌, ◌^◌, ◌≤◌, ◌<◌, ◌≡◌, List, [], ◌∷◌, ◌++◌, Bool, true, ◌↔◌, ◌⊎◌, ℤ, pos, neg_ℤ, ◌+ℤ◌, ◌≤ℤ◌, ◌<ℤ◌, length, get_or, take, Ok}
 use Rattle.std.proofs.Math.Option.{some, none}
-use Rattle.words.specs.Answer.{gives, refused, Why}
+use Rattle.words.specs.Answer.{gives, refused, Why, Reading, Written}
 use Rattle.words.specs.Lays.{LaysExactly}
 use Rattle.words.specs.Promise.{Numbered, HasRoom}
 use Rattle.words.specs.declared.Count.{Count}
 use Rattle.words.specs.declared.Place.{Place}
 use Rattle.words.specs.declared.Refusal.{Refusal}
 use Rattle.words.specs.declared.Refusal.TheVariants.{End}
-use Rattle.words.specs.declared.Written.{Written}
-use Rattle.words.specs.declared.Written.TheVariants as W
 use Rattle.groups.specs.Begins.{Begins}
 use Rattle.groups.specs.Form.{growth}
 use Rattle.groups.specs.Group.{Bytes, Group, digits}
@@ -31,7 +29,6 @@ use Rattle.groups.specs.Width.{read, is_too_many}
 use Rattle.groups.specs.declared.Walked.{Walked}
 use Rattle.uleb128.specs.Unsigned as unsigned
 use Rattle.uleb128.specs.Promise.{ReadsU64, WritesU64}
-use Rattle.uleb128.specs.declared.ReadU64.{ReadU64}
 use Rattle.uleb128_rec.specs.Promise.{ReadsU64Rec, WritesU64Rec}
 use Rattle.sleb128.specs.Signed as signed
 use Rattle.claims.specs.Kinds.{Kind, loop64, recursive64, unsigned32, signed64, Value, Reply, number, refuse, ReadsAs, width, form, OfWidth, WritesAs, TakesAs}
@@ -132,12 +129,12 @@ OneTooMany = (g : List ℕ) → Group g → (is_too_many signed.i64 g ≡ true) 
 -- Write then read gives the number back.
 abbrev pub WriteRead : Kind → Type 0
 WriteRead k = (v : Value k) (before : List ℕ) (at : ℕ) (n : Count) (after : List ℕ) (r : Reply k) → OfWidth k v
-    → WritesAs k v before at (W.Bytes n) after → ReadsAs k after at r → r ≡ number k v n
+    → WritesAs k v before at (Ok n) after → ReadsAs k after at r → r ≡ number k v n
 
 -- Read then write gives the bytes back.
 abbrev pub ReadWrite : Kind → Type 0
 ReadWrite k = (s : List ℕ) (at : ℕ) (v : Value k) (n : Count) (r : Written) (after : List ℕ) → Bytes s
-    → ReadsAs k s at (number k v n) → WritesAs k v s at r after → (r ≡ W.Bytes n) × (after ≡ s)
+    → ReadsAs k s at (number k v n) → WritesAs k v s at r after → (r ≡ Ok n) × (after ≡ s)
 
 -- More bytes behind an accepted number change nothing.
 abbrev pub MoreBehind : Kind → Type 0
@@ -205,7 +202,7 @@ pub record OfNumbers : Type 0 where
   pub signed_form : (v : ℤ) → SignedForm v
   pub one_too_many : OneTooMany
   -- loop and recursive forms
-  pub read_alike : (s : List ℕ) (at : ℕ) (r r' : ReadU64) → ReadsU64 s at r → ReadsU64Rec s at r' → r ≡ r'
+  pub read_alike : (s : List ℕ) (at : ℕ) (r r' : Reading ℕ) → ReadsU64 s at r → ReadsU64Rec s at r' → r ≡ r'
   pub write_alike : (v : ℕ) (s : List ℕ) (at : ℕ) (r r' : Written) (out out' : List ℕ) → WritesU64 v s at r out → WritesU64Rec v s at r' out'
       → (r ≡ r') × (out ≡ out')
   -- round trips

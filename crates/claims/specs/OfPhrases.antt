@@ -12,30 +12,28 @@
 --   EmptyPhrases               an empty branch is good, and an empty list is not
 --   PhrasesMet, PhrasesOne     an answer meets the promise, and no second
 --   OfPhrases                  all of it
-use Rattle.std.specs.Prelude.{ℕ, zero, suc, max, ◌+◌, ◌*◌, ◌≤◌, List, [], ◌∷◌, ◌++◌, ◌↔◌, ◌≡◌, length, drop}
+use Rattle.std.specs.Prelude.{ℕ, zero, suc, max, ◌+◌, ◌*◌, ◌≤◌, List, [], ◌∷◌, ◌++◌, ◌↔◌, ◌≡◌, length, drop, Result, Ok, Err}
 use Rattle.words.specs.declared.Refusal.{Refusal}
 use Rattle.lists.specs.Lists.{list_limit}
 use Rattle.lists.specs.declared.Numbers.{Numbers}
 use Rattle.phrases.specs.Grammar.{Phrase, Phrases, sentence, phrase, nil, cons, Good, sentences}
 use Rattle.phrases.specs.Promise.{PhraseRow, ReadsPhrase}
-use Rattle.phrases.specs.declared.ReadPhrase.{ReadPhrase}
-use Rattle.phrases.specs.declared.ReadPhrase.TheVariants.{Filled, Refused}
 
 -- The slice is filled exactly when the list is one item of the grammar, within the limit, and its leaves fit; the count is theirs.
 abbrev pub FillsPhrase : Type 0
-FillsPhrase = (s old : List ℕ) (r : ReadPhrase) (out : List ℕ) → ReadsPhrase s old r out
-    → (n : Numbers) → (r ≡ Filled n) ↔ ((p : Phrase) × Good s p × (length s ≤ list_limit) × (n.0 ≡ length (sentences p)) × (n.0 ≤ length old))
+FillsPhrase = (s old : List ℕ) (r : Result Numbers Refusal) (out : List ℕ) → ReadsPhrase s old r out
+    → (n : Numbers) → (r ≡ Ok n) ↔ ((p : Phrase) × Good s p × (length s ≤ list_limit) × (n.0 ≡ length (sentences p)) × (n.0 ≤ length old))
 
 -- It then has exactly their sentences at its front, in order, and keeps the rest; after a refusal it is as it was.
 abbrev pub LeavesSlice : Type 0
-LeavesSlice = (s old : List ℕ) (r : ReadPhrase) (out : List ℕ) → ReadsPhrase s old r out →
-    ((n : Numbers) (p : Phrase) → r ≡ Filled n → Good s p → out ≡ sentences p ++ drop n.0 old)
-    × ((why : Refusal) → r ≡ Refused why → out ≡ old)
+LeavesSlice = (s old : List ℕ) (r : Result Numbers Refusal) (out : List ℕ) → ReadsPhrase s old r out →
+    ((n : Numbers) (p : Phrase) → r ≡ Ok n → Good s p → out ≡ sentences p ++ drop n.0 old)
+    × ((why : Refusal) → r ≡ Err why → out ≡ old)
 
 -- A refusal is given exactly when its row holds, and no two rows do.
 abbrev pub RefusesPhrase : Type 0
-RefusesPhrase = (s old : List ℕ) (r : ReadPhrase) (out : List ℕ) → ReadsPhrase s old r out
-    → (why : Refusal) → (r ≡ Refused why) ↔ PhraseRow s (length old) why
+RefusesPhrase = (s old : List ℕ) (r : Result Numbers Refusal) (out : List ℕ) → ReadsPhrase s old r out
+    → (why : Refusal) → (r ≡ Err why) ↔ PhraseRow s (length old) why
 
 abbrev pub many : Phrases → ℕ
 many nil = 0
@@ -84,11 +82,11 @@ EmptyPhrases = Good (1 ∷ []) (phrase nil) × ((p : Phrase) → Good [] p → �
 
 -- The promise is met by some answer, with some final content of what was lent, on every input: no claim over it is empty.
 pub record PhrasesMet : Type 0 where
-  pub phrase : (s old : List ℕ) → (r : ReadPhrase) × (out : List ℕ) × ReadsPhrase s old r out
+  pub phrase : (s old : List ℕ) → (r : Result Numbers Refusal) × (out : List ℕ) × ReadsPhrase s old r out
 
 -- And by no second: no second answer, and no second final content of what was lent.
 pub record PhrasesOne : Type 0 where
-  pub phrase : (s old : List ℕ) (r r' : ReadPhrase) (out out' : List ℕ) → ReadsPhrase s old r out → ReadsPhrase s old r' out' → (r ≡ r') × (out ≡ out')
+  pub phrase : (s old : List ℕ) (r r' : Result Numbers Refusal) (out out' : List ℕ) → ReadsPhrase s old r out → ReadsPhrase s old r' out' → (r ≡ r') × (out ≡ out')
 
 pub record OfPhrases : Type 0 where
   pub phrase_fills : FillsPhrase

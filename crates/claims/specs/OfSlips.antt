@@ -12,16 +12,14 @@
 --   InRange, NoNumber                                      whether a torque lies in a range
 --   SlipsMet, SlipsOne                                     an answer meets each promise, and no second
 --   OfSlips                                                all of it
-use Rattle.std.specs.Prelude.{ℕ, ◌+◌, ◌*◌, ◌≤◌, ◌<◌, ◌^◌, Bool, true, false, List, ◌∷◌, ◌++◌, ◌↔◌, ◌⊎◌, ◌≡◌, Float, pos, length, get_or, take, drop}
+use Rattle.std.specs.Prelude.{ℕ, ◌+◌, ◌*◌, ◌≤◌, ◌<◌, ◌^◌, Bool, true, false, List, ◌∷◌, ◌++◌, ◌↔◌, ◌⊎◌, ◌≡◌, Float, pos, length, get_or, take, drop, Result, Ok, Err}
 use Rattle.std.specs.Float.{nan, inf, fin, binary32}
 use Rattle.std.specs.Float.Ieee.{of_bits, lt}
-use Rattle.words.specs.Answer.{gives}
+use Rattle.words.specs.Answer.{gives, Written}
 use Rattle.words.specs.Lays.{LaysExactly}
 use Rattle.words.specs.declared.Count.{Count}
 use Rattle.words.specs.declared.Refusal.{Refusal}
 use Rattle.words.specs.declared.Refusal.TheVariants.{End, Place, Slip}
-use Rattle.words.specs.declared.Written.{Written}
-use Rattle.words.specs.declared.Written.TheVariants as W
 use Rattle.groups.specs.Begins.{Begins}
 use Rattle.groups.specs.Group.{Bytes}
 use Rattle.slips.specs.Good.{Measure, torque}
@@ -29,8 +27,6 @@ use Rattle.slips.specs.Slip.{measures, body_length, form}
 use Rattle.slips.specs.Promise.{means_setting, F32, means_read_setting, ReadsSetting, WritesSetting, Within, LiesInRange}
 use Rattle.slips.specs.declared.Range.{Range}
 use Rattle.slips.specs.declared.Setting.{Setting}
-use Rattle.slips.specs.declared.ReadSetting.{ReadSetting}
-use Rattle.slips.specs.declared.ReadSetting.TheVariants as R
 
 -- "11 for an infinity or not-a-number, for minus zero, for a torque below zero, and for a lowest above the highest."
 pub data BadFloat (m : Measure) (x : Float) : Type 0 where
@@ -64,12 +60,12 @@ pub data SlipRow (s : List ℕ) (at : ℕ) : Refusal → Type 0 where
 
 -- The reader accepts exactly when the bytes from the start begin with the form of a good setting, and gives that setting and the form's length.
 abbrev pub AcceptsSlip : Type 0
-AcceptsSlip = (s : List ℕ) (at : ℕ) (r : ReadSetting) → Bytes s → ReadsSetting s at r
+AcceptsSlip = (s : List ℕ) (at : ℕ) (r : Result (Setting × Count) Refusal) → Bytes s → ReadsSetting s at r
     → (v : ℕ × List ℕ) (n : ℕ) → (means_read_setting r ≡ gives (v, n)) ↔ Begins form Good s at v n
 
 -- It refuses by a number exactly when a row of that number holds; no two numbers have one, nor any where it accepts; and one has, or it accepts.
 abbrev pub RefusesSlip : Type 0
-RefusesSlip = (s : List ℕ) (at : ℕ) (r : ReadSetting) → Bytes s → ReadsSetting s at r → (why : Refusal) → (r ≡ R.Refused why) ↔ SlipRow s at why
+RefusesSlip = (s : List ℕ) (at : ℕ) (r : Result (Setting × Count) Refusal) → Bytes s → ReadsSetting s at r → (why : Refusal) → (r ≡ Err why) ↔ SlipRow s at why
 
 abbrev pub ExcludesSlip : Type 0
 ExcludesSlip = (s : List ℕ) (at : ℕ) →
@@ -83,21 +79,21 @@ ExhaustsSlip = (s : List ℕ) (at : ℕ) → Bytes s →
 -- A setting that is not good is refused by 11, and nothing else is; the form of any other is written as that of a number is.
 abbrev pub WritesSlip : Type 0
 WritesSlip = (v : Setting) (before : List ℕ) (at : ℕ) (r : Written) (after : List ℕ) → WritesSetting v before at r after →
-    ((Good (means_setting v) → ⊥) ↔ ((r ≡ W.Refused Slip) × (after ≡ before)))
+    ((Good (means_setting v) → ⊥) ↔ ((r ≡ Err Slip) × (after ≡ before)))
     × (Good (means_setting v) → LaysExactly (form (means_setting v)) before at r after)
 
 -- What was written reads back as the same setting, bit for bit; what was read, written where it stood, changes no byte.
 abbrev pub SlipWriteRead : Type 0
-SlipWriteRead = (v : Setting) (before : List ℕ) (at : ℕ) (n : Count) (after : List ℕ) (r : ReadSetting) → F32 v
-    → WritesSetting v before at (W.Bytes n) after → ReadsSetting after at r → r ≡ R.Setting v n
+SlipWriteRead = (v : Setting) (before : List ℕ) (at : ℕ) (n : Count) (after : List ℕ) (r : Result (Setting × Count) Refusal) → F32 v
+    → WritesSetting v before at (Ok n) after → ReadsSetting after at r → r ≡ Ok (v, n)
 
 abbrev pub SlipReadWrite : Type 0
 SlipReadWrite = (s : List ℕ) (at : ℕ) (v : Setting) (n : Count) (r : Written) (after : List ℕ) → Bytes s
-    → ReadsSetting s at (R.Setting v n) → WritesSetting v s at r after → (r ≡ W.Bytes n) × (after ≡ s)
+    → ReadsSetting s at (Ok (v, n)) → WritesSetting v s at r after → (r ≡ Ok n) × (after ≡ s)
 
 -- A setting is read from no bytes but its form: it has one spelling,
 abbrev pub SlipSpelled : Type 0
-SlipSpelled = (s : List ℕ) (at : ℕ) (v : Setting) (n : Count) → Bytes s → ReadsSetting s at (R.Setting v n)
+SlipSpelled = (s : List ℕ) (at : ℕ) (v : Setting) (n : Count) → Bytes s → ReadsSetting s at (Ok (v, n))
     → take n.0 (drop at s) ≡ form (means_setting v)
 
 -- and a spelling has one setting, whatever stands behind it.
@@ -110,8 +106,8 @@ SlipLength = (v : ℕ × List ℕ) → Good v → length (form v) ≡ 1 + 4 * le
 
 -- More bytes behind change neither a setting nor a refusal by 11.
 abbrev pub SlipBehind : Type 0
-SlipBehind = (s more : List ℕ) (at : ℕ) (q r : ReadSetting) → Bytes s → ReadsSetting s at q → ReadsSetting (s ++ more) at r
-    → ((v : Setting) (n : Count) → q ≡ R.Setting v n → r ≡ R.Setting v n) × (q ≡ R.Refused Slip → r ≡ R.Refused Slip)
+SlipBehind = (s more : List ℕ) (at : ℕ) (q r : Result (Setting × Count) Refusal) → Bytes s → ReadsSetting s at q → ReadsSetting (s ++ more) at r
+    → ((v : Setting) (n : Count) → q ≡ Ok (v, n) → r ≡ Ok (v, n)) × (q ≡ Err Slip → r ≡ Err Slip)
 
 -- The answer is yes exactly when the torque is neither under the lowest nor over the highest; a not-a-number among the three gets no.
 abbrev pub InRange : Type 0
@@ -122,13 +118,13 @@ NoNumber = (t : Float) (range : Range) (r : Bool) → LiesInRange t range r → 
 
 -- Each promise is met by some answer, with some final content of what was lent, on every input: no claim over promises is empty.
 pub record SlipsMet : Type 0 where
-  pub setting : (s : List ℕ) (at : ℕ) → (r : ReadSetting) × ReadsSetting s at r
+  pub setting : (s : List ℕ) (at : ℕ) → (r : Result (Setting × Count) Refusal) × ReadsSetting s at r
   pub written : (v : Setting) (s : List ℕ) (at : ℕ) → (r : Written) × (out : List ℕ) × WritesSetting v s at r out
   pub in_range : (t : Float) (range : Range) → (r : Bool) × LiesInRange t range r
 
 -- And by no second: no second answer, and no second final content of what was lent.
 pub record SlipsOne : Type 0 where
-  pub setting : (s : List ℕ) (at : ℕ) (r r' : ReadSetting) → ReadsSetting s at r → ReadsSetting s at r' → r ≡ r'
+  pub setting : (s : List ℕ) (at : ℕ) (r r' : Result (Setting × Count) Refusal) → ReadsSetting s at r → ReadsSetting s at r' → r ≡ r'
   pub written : (v : Setting) (s : List ℕ) (at : ℕ) (r r' : Written) (out out' : List ℕ) → WritesSetting v s at r out → WritesSetting v s at r' out'
       → (r ≡ r') × (out ≡ out')
   pub in_range : (t : Float) (range : Range) (r r' : Bool) → LiesInRange t range r → LiesInRange t range r' → r ≡ r'

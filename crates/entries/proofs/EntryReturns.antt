@@ -16,13 +16,12 @@ use Rattle.entries.specs.Saying.{SaysEntry, Good, Verdict, good, bad, Judged, is
 use Rattle.entries.specs.Inner.{Hears}
 use Rattle.entries.specs.Promise.{too_long, past, no_mark, ended, Answered, row, found, ReadsEntry}
 use Rattle.entries.specs.declared.Entry.{Entry}
-use Rattle.entries.specs.declared.saying.Said.{Said}
-use Rattle.entries.specs.declared.saying.Said.TheVariants.{Numbers, Fault}
 use Rattle.entries.specs.declared.ReadEntry.TheVariants as R
 use Rattle.entries.proofs.NextMarks.{mark_inside, next_within, next_is, next_none}
 use Rattle.entries.proofs.Standing.{entry_there, entry_end}
 use Rattle.entries.proofs.SaysGroups.{one_said, said_alone, said_within}
 use Rattle.entries.proofs.NoMarkInside.{fields_refuse, no_mark_said, part_behind}
+use Rattle.std.specs.Prelude.{Ok, Err, Option, Some, None}
 
 take_none : (k : ℕ) → ◌≡◌ {A = List ℕ} (take k []) []
 take_none zero = refl
@@ -43,23 +42,23 @@ module _ (s : List ℕ) (p : ℕ) where
   from_place : take (length s - p) (drop p s) ≡ drop p s
   from_place = take_all (length s - p) (drop p s) (omega (arith, length-drop p s))
 
-  pub heard_numbers : {r : Said} {x : Entry} {n : ℕ} → r ≡ Numbers x n → Hears (take (length s - p) (drop p s)) r
+  pub heard_numbers : {r : Option (Entry × ℕ)} {x : Entry} {n : ℕ} → r ≡ Some (x, n) → Hears (take (length s - p) (drop p s)) r
       → (n ≤ length (drop p s)) × SaysEntry (drop p s) x (drop n (drop p s))
   heard_numbers {x = x} {n = n} e h = subst (λ (l : List ℕ). (n ≤ length l) × SaysEntry l x (drop n l)) from_place (rw e at h)
 
-  pub heard_fault : {r : Said} → r ≡ Fault → Hears (take (length s - p) (drop p s)) r → (x : Entry) (rest : List ℕ) → SaysEntry (drop p s) x rest → ⊥
+  pub heard_fault : {r : Option (Entry × ℕ)} → r ≡ None → Hears (take (length s - p) (drop p s)) r → (x : Entry) (rest : List ℕ) → SaysEntry (drop p s) x rest → ⊥
   heard_fault e h = subst (λ (l : List ℕ). (x : Entry) (rest : List ℕ) → SaysEntry l x rest → ⊥) from_place (rw e at h)
 
 module _ {s : List ℕ} {p : ℕ} where
-  pub block_too_long : block_limit < length s → ReadsEntry s p (R.Refused Why.TooLong)
+  pub block_too_long : block_limit < length s → ReadsEntry s p (Err Why.TooLong)
   block_too_long h = record { answer = row (too_long h) }
 
   module _ (short : length s ≤ block_limit) where
-    pub place_past : length s < p → ReadsEntry s p (R.Refused Why.Place)
+    pub place_past : length s < p → ReadsEntry s p (Err Why.Place)
     place_past h = record { answer = row (past short h) }
 
     module _ {m : ℕ} (a : NextMark s p m) where
-      pub none_ahead : p ≤ length s → length s ≤ m → ReadsEntry s p (R.Refused Why.NoStart)
+      pub none_ahead : p ≤ length s → length s ≤ m → ReadsEntry s p (Err Why.NoStart)
       none_ahead h l = record { answer = row (no_mark short h (next_none a l)) }
 
       module _ (inside : m < length s) where
@@ -87,7 +86,7 @@ module _ {s : List ℕ} {p : ℕ} where
             there = there;
           }
 
-          pub entry_good : EndsAt s (m + 2 + n) → ReadsEntry s p (R.Good x (record { 0 = m + 2 + n }))
+          pub entry_good : EndsAt s (m + 2 + n) → ReadsEntry s p (Ok (R.Good x (record { 0 = m + 2 + n })))
           entry_good there =
               let e : n ≡ m + 2 + n - (m + 2) = omega arith in
               record { answer = judged (good x) (ends_next there) (subst (λ (k : ℕ). Judged (take k (drop (m + 2) s)) (good x)) e (is_good (record { says = said_alone n within said.says; sensible = said.sensible }))) }
@@ -97,11 +96,11 @@ module _ {s : List ℕ} {p : ℕ} where
           whole : {y : Entry} → Good (take (n - (m + 2)) (drop (m + 2) s)) y → SaysEntry (drop (m + 2) s) y (drop (n - (m + 2)) (drop (m + 2) s))
           whole g = record { says = said_within (n - (m + 2)) g.says; sensible = g.sensible }
 
-          pub entry_faulty : ((y : Entry) (rest : List ℕ) → SaysEntry (drop (m + 2) s) y rest → ⊥) → ReadsEntry s p (R.Bad Why.Entry (record { 0 = n }))
+          pub entry_faulty : ((y : Entry) (rest : List ℕ) → SaysEntry (drop (m + 2) s) y rest → ⊥) → ReadsEntry s p (Ok (R.Bad Why.Entry (record { 0 = n })))
           entry_faulty none = record { answer = judged bad b (is_bad (λ y g. none y (drop (n - (m + 2)) (drop (m + 2) s)) (whole g))) }
 
           pub entry_longer : {x : Entry} {k : ℕ} → k ≤ length (drop (m + 2) s) → SaysEntry (drop (m + 2) s) x (drop k (drop (m + 2) s))
-              → (EndsAt s (m + 2 + k) → ⊥) → ReadsEntry s p (R.Bad Why.Entry (record { 0 = n }))
+              → (EndsAt s (m + 2 + k) → ⊥) → ReadsEntry s p (Ok (R.Bad Why.Entry (record { 0 = n })))
           entry_longer {k = k} h said none = record {
             answer = judged bad b (is_bad (λ y g.
                 let l = drop (m + 2) s in

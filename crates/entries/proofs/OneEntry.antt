@@ -31,10 +31,11 @@ use Rattle.entries.specs.Saying.{Verdict, good, bad, Judged}
 use Rattle.entries.specs.Promise.{EntryIs, FirstEntry, EntryRefused, too_long, past, no_mark, ended, Answered, row, found, means_read_entry, ReadsEntry}
 use Rattle.entries.specs.declared.Entry.{Entry}
 use Rattle.entries.specs.declared.ReadEntry.{ReadEntry}
-use Rattle.entries.specs.declared.ReadEntry.TheVariants.{Good, Bad, Refused}
+use Rattle.entries.specs.declared.ReadEntry.TheVariants.{Good, Bad}
 use Rattle.entries.proofs.NextMarks.{next_within, next_is, next_none, one_next, some_next}
 use Rattle.entries.proofs.Standing.{one_entry, some_entry}
 use Rattle.entries.proofs.SaysGroups.{one_verdict, some_verdict}
+use Rattle.std.specs.Prelude.{Result, Ok, Err}
 
 bytes_take : (n : ℕ) (l : List ℕ) → Bytes l → Bytes (take n l)
 bytes_take zero l h i = omega arith
@@ -85,19 +86,19 @@ module _ {s : List ℕ} {p : ℕ} where
   one_answered (found h f) (row y) = no_row h f y
   one_answered (found h f) (found k g) = let w = one_first f g in same_ended w.0 w.1
 
-abbrev back_to : Answer (Entry × ℕ) → ReadEntry
-back_to (gives x) = Good x.0 (record { 0 = x.1 })
-back_to (refused (by k)) = Refused (refusal_of k)
-back_to (refused (by_at k q)) = Bad (refusal_of k) (record { 0 = q })
+abbrev back_to : Answer (Entry × ℕ) → Result ReadEntry Refusal
+back_to (gives x) = Ok (Good x.0 (record { 0 = x.1 }))
+back_to (refused (by k)) = Err (refusal_of k)
+back_to (refused (by_at k q)) = Ok (Bad (refusal_of k) (record { 0 = q }))
 
-pub same_entry : (r r' : ReadEntry) → means_read_entry r ≡ means_read_entry r' → r ≡ r'
+pub same_entry : (r r' : Result ReadEntry Refusal) → means_read_entry r ≡ means_read_entry r' → r ≡ r'
 same_entry =
     same_by means_read_entry back_to
-    (λ r. elim r as (λ k. back_to (means_read_entry k) ≡ k) [ Good x q ↦ refl | Bad why q ↦ ap (λ w. Bad w q) (refusal_back why) | Refused why ↦ ap Refused (refusal_back why) ])
+    (λ r. elim r as (λ k. back_to (means_read_entry k) ≡ k) [ Ok (Good x q) ↦ refl | Ok (Bad why q) ↦ ap (λ w. Ok (Bad w q)) (refusal_back why) | Err why ↦ ap Err (refusal_back why) ])
 
-abbrev pub answer_of : Verdict → ℕ → ReadEntry
-answer_of (good x) q = Good x (record { 0 = q })
-answer_of bad q = Bad Why.Entry (record { 0 = q })
+abbrev pub answer_of : Verdict → ℕ → Result ReadEntry Refusal
+answer_of (good x) q = Ok (Good x (record { 0 = q }))
+answer_of bad q = Ok (Bad Why.Entry (record { 0 = q }))
 
 pub answer_means : (v : Verdict) (q : ℕ) → means_read_entry (answer_of v q) ≡ ended v q
 answer_means (good x) q = refl
@@ -112,15 +113,15 @@ some_is bytes k =
     let v = some_verdict (drop 2 e.0) (entry_bytes bytes e.1) in
     (length e.0, v.0, record { bytes = e.0; stands = e.1; count = refl; judged = v.1 })
 
-pub some_answer : (s : List ℕ) (p : ℕ) → Bytes s → (r : ReadEntry) × ReadsEntry s p r
+pub some_answer : (s : List ℕ) (p : ℕ) → Bytes s → (r : Result ReadEntry Refusal) × ReadsEntry s p r
 some_answer s p bytes =
-    by_order block_limit (length s) (λ h. (Refused Why.TooLong, record { answer = row (too_long h) }))
-    (λ short. by_order (length s) p (λ h. (Refused Why.Place, record { answer = row (past short h) }))
+    by_order block_limit (length s) (λ h. (Err Why.TooLong, record { answer = row (too_long h) }))
+    (λ short. by_order (length s) p (λ h. (Err Why.Place, record { answer = row (past short h) }))
     (λ h. let w = some_next s p h in
     by_order w.0 (length s)
     (λ l. let e = some_is bytes (next_is w.1 l) in
     (answer_of e.1 (w.0 + e.0), reads_first e.1 short (record { place = w.0; count = e.0; first = w.1; entry = e.2; ends = refl })))
-    (λ l. (Refused Why.NoStart, record { answer = row (no_mark short h (next_none w.1 l)) }))))
+    (λ l. (Err Why.NoStart, record { answer = row (no_mark short h (next_none w.1 l)) }))))
 
 pub ended_same : (v w : Verdict) {q r : ℕ} → ended v q ≡ ended w r → (v ≡ w) × (q ≡ r)
 ended_same (good x) (good y) e = (ap good (given_value e), given_count e)

@@ -20,7 +20,6 @@ use lib.Signed.{mag}
 use Rattle.words.specs.Inner.{Puts}
 use Rattle.words.proofs.LaysInParts.{Laying, part_laid, rest_fits}
 use Rattle.words.specs.Lays.{Lays}
-use Rattle.words.specs.declared.Written.{Written}
 use Rattle.bits.specs.Macros.{take_low_7_bits_lem}
 use Rattle.groups.specs.Form.{spelling}
 use Rattle.groups.specs.Promise.{Stores}
@@ -37,6 +36,7 @@ use Rattle.entries.specs.Standing.{mark}
 use Rattle.entries.specs.Saying.{form_of, forms_of}
 use Rattle.entries.specs.Promise.{entry_form}
 use Rattle.entries.specs.declared.Entry.{Entry}
+use Rattle.words.specs.Answer.{Written}
 
 pub form_spelling : (n : Value) → form_of (means_value n) ≡ spelling n
 unfolding unsignedForm signedForm

@@ -5,17 +5,17 @@
 --   In k l               k is one of the things of l
 --   Ordered n l          the places of l grow, from n on
 --   EntriesFrom s p l    l is the entries of s whose marks stand at p or later, in order, and no other
-use Rattle.std.specs.Prelude.{ℕ, suc, ◌+◌, ◌≤◌, ◌≡◌, List, [], ◌∷◌, ◌⊎◌, ◌↔◌}
+use Rattle.std.specs.Prelude.{ℕ, suc, ◌+◌, ◌≤◌, ◌≡◌, List, [], ◌∷◌, ◌⊎◌, ◌↔◌, Result, Err}
 use Rattle.words.specs.declared.Refusal.TheVariants.{NoStart}
 use Rattle.entries.specs.Standing.{NextMark}
 use Rattle.entries.specs.Saying.{Verdict}
 use Rattle.entries.specs.Promise.{EntryIs, ended, means_read_entry, ReadsEntry}
 use Rattle.entries.specs.declared.ReadEntry.{ReadEntry}
-use Rattle.entries.specs.declared.ReadEntry.TheVariants.{Refused}
+use Rattle.words.specs.declared.Refusal.{Refusal}
 
 pub data EntriesGiven (s : List ℕ) : ℕ → List (ℕ × ℕ × Verdict) → Type 0 where
-  no_more : {p : ℕ} → ReadsEntry s p (Refused NoStart) → EntriesGiven s p []
-  next : {p m n : ℕ} {v : Verdict} {l : List (ℕ × ℕ × Verdict)} (r : ReadEntry) → ReadsEntry s p r → means_read_entry r ≡ ended v (m + n) → NextMark s p m
+  no_more : {p : ℕ} → ReadsEntry s p (Err NoStart) → EntriesGiven s p []
+  next : {p m n : ℕ} {v : Verdict} {l : List (ℕ × ℕ × Verdict)} (r : Result ReadEntry Refusal) → ReadsEntry s p r → means_read_entry r ≡ ended v (m + n) → NextMark s p m
       → EntriesGiven s (m + n) l → EntriesGiven s p ((m, n, v) ∷ l)
 
 abbrev pub In : {A : Type 0} → A → List A → Type 0

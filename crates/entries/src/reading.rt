@@ -11,31 +11,31 @@ use words::{Place, Refusal};
 // no mark. The place may lie anywhere, in the middle of a group too. No mark stands among numbers that read, so that the end is looked for only
 // where the entry is bad.
 #[tactic(auto, using(crate::proofs::EntryReturns::block_too_long))]
-pub fn read_entry(block: &[u8], place: Place) -> ReadEntry
+pub fn read_entry(block: &[u8], place: Place) -> Result<ReadEntry, Refusal>
     ensures { ReadsEntry block.now place.0 result }
 {
     let from = place.0;
     if BLOCK_LIMIT < block.len() {
-        return ReadEntry::Refused(Refusal::TooLong);
+        return Err(Refusal::TooLong);
     }
     if block.len() < from {
-        return ReadEntry::Refused(Refusal::Place);
+        return Err(Refusal::Place);
     }
     let at = next_mark(block, from);
     if block.len() <= at {
-        return ReadEntry::Refused(Refusal::NoStart);
+        return Err(Refusal::NoStart);
     }
     let first = at + 2;
     match hear(&block[first..]) {
-        Said::Numbers(entry, count) => {
+        Some((entry, count)) => {
             let end = first + count;
             let whole = ends(block, end);
             if whole {
-                return ReadEntry::Good(entry, Place(end));
+                return Ok(ReadEntry::Good(entry, Place(end)));
             }
         }
-        Said::Fault => {}
+        None => {}
     }
     let end = next_mark(block, first);
-    ReadEntry::Bad(Refusal::Entry, Place(end))
+    Ok(ReadEntry::Bad(Refusal::Entry, Place(end)))
 }

@@ -28,33 +28,33 @@ pub(crate) fn is_absurd(turn: i64) -> bool
 }
 
 // What these bytes, from behind a mark on, begin with.
-pub(crate) fn hear(bytes: &[u8]) -> Said
+pub(crate) fn hear(bytes: &[u8]) -> Option<(Entry, usize)>
     ensures { Hears bytes.now result }
 {
     match read_u64(bytes, Place(0)) {
-        ReadU64::Refused(_, _) => Said::Fault,
-        ReadU64::Number(segment, count) => {
+        Err(_) => None,
+        Ok((segment, count)) => {
             let second = count.0;
             match read_u64(bytes, Place(second)) {
-                ReadU64::Refused(_, _) => Said::Fault,
-                ReadU64::Number(sentence, count2) => {
+                Err(_) => None,
+                Ok((sentence, count2)) => {
                     let n2 = count2.0;
                     let third = second + n2;
                     match read_i64(bytes, Place(third)) {
-                        ReadI64::Refused(_, _) => Said::Fault,
-                        ReadI64::Number(turn, count3) => {
+                        Err(_) => None,
+                        Ok((turn, count3)) => {
                             let n3 = count3.0;
                             let all = third + n3;
                             let absurd = is_absurd(turn);
                             if absurd {
-                                return Said::Fault;
+                                return None;
                             }
                             let entry = Entry {
                                 segment,
                                 sentence,
                                 turn,
                             };
-                            Said::Numbers(entry, all)
+                            Some((entry, all))
                         }
                     }
                 }

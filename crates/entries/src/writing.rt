@@ -14,7 +14,7 @@ use bits::take_low_7_bits;
 use groups::{Value, store};
 use sleb128::length_i64;
 use uleb128::{ONE_BYTE, length_u64};
-use words::{Count, Place, Refusal, Written, has_room};
+use words::{Count, Place, Refusal, has_room};
 
 // How many bytes the entry takes, its mark among them.
 fn entry_length(entry: Entry) -> Count
@@ -45,11 +45,11 @@ fn put(number: Value, buffer: &mut [u8], at: usize) -> usize
     ensures { Puts (form_of (means_value number)) buffer.old at result buffer.new }
 {
     match store(number, buffer, Place(at)) {
-        Written::Bytes(count) => {
+        Ok(count) => {
             let n = count.0;
             at + n
         }
-        Written::Refused(_) => at,
+        Err(_) => at,
     }
 }
 
@@ -77,19 +77,19 @@ fn put_entry(entry: Entry, buffer: &mut [u8], at: usize) -> usize
 }
 
 // Lays the entry down at the place, its mark first, and answers its count of bytes; else 10 for an absurd turn, then 5, and no byte is changed.
-pub fn write_entry(entry: Entry, buffer: &mut [u8], place: Place) -> Written
+pub fn write_entry(entry: Entry, buffer: &mut [u8], place: Place) -> Result<Count, Refusal>
     ensures { WritesEntry entry buffer.old place.0 result buffer.new }
 {
     let absurd = is_absurd(entry.turn);
     let all = entry_length(entry);
     let room = has_room(buffer.len(), place, all);
     if absurd {
-        return Written::Refused(Refusal::Entry);
+        return Err(Refusal::Entry);
     }
     if !room {
-        return Written::Refused(Refusal::NoRoom);
+        return Err(Refusal::NoRoom);
     }
     let at = place.0;
     put_entry(entry, buffer, at);
-    Written::Bytes(all)
+    Ok(all)
 }

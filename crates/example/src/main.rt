@@ -18,42 +18,42 @@ use words::{Count, Place, Refusal, Written};
 // Writes an unsigned number at a place. The next one goes count bytes behind it; a refused write has changed no byte.
 fn write_number(out: Stdout, v: u64, buffer: &mut [u8], place: Place) {
     match uleb128::write_u64(v, buffer, place) {
-        Written::Bytes(count) => say_count(out, count),
-        Written::Refused(refusal) => say_refused(out, refusal),
+        Ok(count) => say_count(out, count),
+        Err(refusal) => say_refused(out, refusal),
     }
 }
 
 // Writes quarter turns at a place.
 fn write_turn(out: Stdout, quarters: i64, buffer: &mut [u8], place: Place) {
     match sleb128::write_i64(quarters, buffer, place) {
-        Written::Bytes(count) => say_count(out, count),
-        Written::Refused(refusal) => say_refused(out, refusal),
+        Ok(count) => say_count(out, count),
+        Err(refusal) => say_refused(out, refusal),
     }
 }
 
 // Reads an unsigned number at a place. The next one is count bytes behind it.
 fn read_number(out: Stdout, bytes: &[u8], place: Place) {
     match uleb128::read_u64(bytes, place) {
-        ReadU64::Number(v, count) => {
+        Ok((v, count)) => {
             say_number(out, v);
             say_count(out, count);
         }
-        ReadU64::Refused(refusal, byte) => say_decided(out, refusal, byte),
+        Err(Fault(refusal, byte)) => say_decided(out, refusal, byte),
     }
 }
 
 // Reads a signed number at a place, as quarter turns on an adapter with this thread.
 fn read_turn(out: Stdout, bytes: &[u8], place: Place, thread: u8) {
     match sleb128::read_i64(bytes, place) {
-        ReadI64::Number(quarters, _) => say_meaning(out, quarters, thread),
-        ReadI64::Refused(refusal, byte) => say_decided(out, refusal, byte),
+        Ok((quarters, _)) => say_meaning(out, quarters, thread),
+        Err(Fault(refusal, byte)) => say_decided(out, refusal, byte),
     }
 }
 
 fn say_meaning(out: Stdout, quarters: i64, thread: u8) {
     match turns::means(quarters, thread) {
-        Meaning::Turn(turn) => say_turn(out, turn),
-        Meaning::Refused(refusal) => say_refused(out, refusal),
+        Ok(turn) => say_turn(out, turn),
+        Err(refusal) => say_refused(out, refusal),
     }
 }
 
@@ -73,22 +73,22 @@ fn step_through(out: Stdout, block: &[u8], from: Cursor) {
     while 0 < left {
         left -= 1;
         match cursor.step(block, Rule::Unsigned) {
-            Step::Number(value, _, next) => {
+            Ok(Step::Number(value, _, next)) => {
                 say_value(out, value);
                 cursor = next;
             }
-            Step::Gap(reason, byte, _, next) => {
+            Ok(Step::Gap(Fault(reason, byte), _, next)) => {
                 say_gap(out, reason, byte);
                 cursor = next;
             }
-            Step::Tail(count, _) => {
+            Ok(Step::Tail(count, _)) => {
                 say_tail(out, count);
                 return;
             }
-            Step::Finished(_) => {
+            Ok(Step::Finished(_)) => {
                 return;
             }
-            Step::Refused(refusal) => {
+            Err(refusal) => {
                 say_refused(out, refusal);
                 return;
             }
@@ -99,33 +99,33 @@ fn step_through(out: Stdout, block: &[u8], from: Cursor) {
 // The same from any place on, be it in the middle of a group: set-down finds the next start.
 fn step_from(out: Stdout, block: &[u8], place: Place) {
     match blocks::set_down(block, place) {
-        SetDown::At(cursor) => step_through(out, block, cursor),
-        SetDown::Refused(refusal) => say_refused(out, refusal),
+        Ok(cursor) => step_through(out, block, cursor),
+        Err(refusal) => say_refused(out, refusal),
     }
 }
 
 // Reads all numbers of a block into a slice, or none of them if anything in the block is damaged.
 fn read_all(out: Stdout, block: &[u8], numbers: &mut [u64]) {
     match lists::read_strict(block, numbers) {
-        ReadList::Filled(count) => say_numbers(out, count),
-        ReadList::Faulty(refusal, byte) => say_decided(out, refusal, byte),
-        ReadList::Refused(refusal) => say_refused(out, refusal),
+        Ok(count) => say_numbers(out, count),
+        Err(NotRead::Faulty(Fault(refusal, byte))) => say_decided(out, refusal, byte),
+        Err(NotRead::Refused(refusal)) => say_refused(out, refusal),
     }
 }
 
 // Writes a setting's slip at a place.
 fn write_setting(out: Stdout, setting: Setting, buffer: &mut [u8], place: Place) {
     match slips::write_setting(setting, buffer, place) {
-        Written::Bytes(count) => say_count(out, count),
-        Written::Refused(refusal) => say_refused(out, refusal),
+        Ok(count) => say_count(out, count),
+        Err(refusal) => say_refused(out, refusal),
     }
 }
 
 // Reads the setting at a place, for a tool that is set to this torque.
 fn read_setting(out: Stdout, bytes: &[u8], place: Place, torque: f32) {
     match slips::read_setting(bytes, place) {
-        ReadSetting::Setting(setting, _) => say_setting(out, setting, torque),
-        ReadSetting::Refused(refusal) => say_refused(out, refusal),
+        Ok((setting, _)) => say_setting(out, setting, torque),
+        Err(refusal) => say_refused(out, refusal),
     }
 }
 
@@ -148,16 +148,16 @@ fn say_whether(out: Stdout, in_range: bool) {
 // Reads the sentences of a phrase into a slice, or none of them if the list is anything but one item.
 fn read_phrase(out: Stdout, numbers: &[u64], sentences: &mut [u64]) {
     match phrases::read_phrase(numbers, sentences) {
-        ReadPhrase::Filled(count) => say_sentences(out, count),
-        ReadPhrase::Refused(refusal) => say_refused(out, refusal),
+        Ok(count) => say_sentences(out, count),
+        Err(refusal) => say_refused(out, refusal),
     }
 }
 
 // Writes an entry at a place, its mark first.
 fn write_entry(out: Stdout, entry: Entry, buffer: &mut [u8], place: Place) {
     match entries::write_entry(entry, buffer, place) {
-        Written::Bytes(count) => say_count(out, count),
-        Written::Refused(refusal) => say_refused(out, refusal),
+        Ok(count) => say_count(out, count),
+        Err(refusal) => say_refused(out, refusal),
     }
 }
 
@@ -169,15 +169,15 @@ fn read_entries(out: Stdout, block: &[u8]) {
     while 0 < left {
         left -= 1;
         match entries::read_entry(block, place) {
-            ReadEntry::Good(entry, end) => {
+            Ok(ReadEntry::Good(entry, end)) => {
                 say_entry(out, entry);
                 place = end;
             }
-            ReadEntry::Bad(refusal, end) => {
+            Ok(ReadEntry::Bad(refusal, end)) => {
                 say_ended(out, refusal, end);
                 place = end;
             }
-            ReadEntry::Refused(_) => {
+            Err(_) => {
                 return;
             }
         }

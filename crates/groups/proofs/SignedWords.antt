@@ -21,12 +21,12 @@ use lib.IntN.{ℤ, pos, negsuc, nat_abs}
 use lib.Signed.{mag, lt_z, non_neg}
 use Rattle.words.specs.Lays.{Lays}
 use Rattle.words.specs.declared.Count.{Count}
-use Rattle.words.specs.declared.Written.{Written}
 use Rattle.groups.specs.Form.{below}
 use Rattle.groups.specs.Inner.{groups}
 use Rattle.groups.specs.Promise.{SpelledLength, Stores}
 use Rattle.groups.specs.declared.Value.TheVariants.{Signed}
 use Rattle.groups.proofs.Spelling.{spelled, spelled_laid}
+use Rattle.words.specs.Answer.{Written}
 
 pub below_sign : (v : ℤ) → SFits w64 v → lt_z (to_z w64 (of_z w64 v)) (pos 0) ≡ below v
 below_sign v f = rw (to_z-of_z w64 v f) (sign v)

@@ -15,13 +15,13 @@ use lib.ListN.{length, get_or, take, drop, set, length-set}
 use lib.Seq.{paste, paste-zero, paste-suc, take-length, get_or-drop, drop-drop}
 use Rattle.words.specs.Lays.{Lays}
 use Rattle.words.specs.declared.Count.{Count}
-use Rattle.words.specs.declared.Written.TheVariants.{Bytes}
 use Rattle.words.proofs.Lays.{fits_there}
 use Rattle.groups.specs.Form.{say}
 use Rattle.groups.specs.Inner.{groups}
 use Rattle.bits.specs.Macros.{take_low_7_bits_lem, set_high_8_bit_lem}
 use Rattle.bits.proofs.HighBit.{set_seven}
 use Rattle.groups.proofs.Spelling.{length_groups, say_below}
+use Rattle.std.specs.Prelude.{Ok}
 
 -- all of the bytes pasted are the bytes laid down
 pasted_all : (bytes s : List ℕ) (at n : ℕ) → n ≡ length bytes → paste s at bytes n ≡ take at s ++ bytes ++ drop (at + length bytes) s
@@ -74,7 +74,7 @@ module _ (below : Bool) (more m : ℕ) (s : List ℕ) (at : ℕ) where
     last_byte h = let z : more - i ≡ 0 = omega arith in rw z
 
     pub all_stored : (n : Count) → n.0 ≡ suc more → more ≤ i
-        → Lays (groups below n.0 m) s at (Bytes n) (set out (at + more) (say below (rest % 128)))
+        → Lays (groups below n.0 m) s at (Ok n) (set out (at + more) (say below (rest % 128)))
     all_stored n c h =
         let j : i ≡ more = omega (arith, g.few) in
         let p : set out (at + more) (say below (rest % 128)) ≡ paste s at (groups below (suc more) m) (suc more) =

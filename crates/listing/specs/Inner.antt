@@ -6,15 +6,14 @@
 --   means_row       what an answer says of it
 --   line_said x     the line of what a step says
 --   SaysRow s p r   r is the line of what a step from the place p by the unsigned rule says
-use Rattle.std.specs.Prelude.{ℕ, List, ◌++◌, ◌≡◌}
+use Rattle.std.specs.Prelude.{ℕ, List, ◌++◌, ◌≡◌, Option, Some, None}
 use Rattle.texts.specs.Texts.{ascii}
 use Rattle.blocks.specs.Block.{unsigned, signed, Stepped, number, gap, tail, finished, refuses, stepping}
 use Rattle.blocks.specs.declared.Rule.TheVariants.{Unsigned}
 use Rattle.listing.specs.Listing.{fault}
 use Rattle.listing.specs.declared.rows.What.{What}
 use Rattle.listing.specs.declared.rows.What.TheVariants as W
-use Rattle.listing.specs.declared.rows.Row.{Row}
-use Rattle.listing.specs.declared.rows.Row.TheVariants as R
+use Rattle.words.specs.declared.Count.{Count}
 
 abbrev pub word_of : What → List ℕ
 word_of W.Number = ascii "number"
@@ -29,9 +28,9 @@ pub data Line : Type 0 where
   says : List ℕ → ℕ → ℕ → Line
   none : Line
 
-abbrev pub means_row : Row → Line
-means_row (R.Line w v n) = says (word_of w) v n.0
-means_row R.Finished = none
+abbrev pub means_row : Option (What × ℕ × Count) → Line
+means_row (Some (w, v, n)) = says (word_of w) v n.0
+means_row None = none
 
 -- from a start no step by the unsigned rule says a signed number, or refuses
 abbrev pub line_said : Stepped → Line
@@ -42,5 +41,5 @@ line_said (tail n q) = says (ascii "tail") n n
 line_said (finished q) = none
 line_said (refuses k) = none
 
-pub record SaysRow (s : List ℕ) (p : ℕ) (r : Row) : Type 0 where
+pub record SaysRow (s : List ℕ) (p : ℕ) (r : Option (What × ℕ × Count)) : Type 0 where
   pub is : means_row r ≡ line_said (stepping Unsigned s p)

@@ -40,26 +40,26 @@ fn fault_of(refusal: Refusal) -> What
 }
 
 // The line of what stands at the place. From a start no step by the unsigned rule says a signed number, or refuses.
-fn row_at(block: &[u8], at: usize) -> Row
+fn row_at(block: &[u8], at: usize) -> Option<(What, u64, Count)>
     ensures { SaysRow block.now at result }
 {
     let cursor = Cursor { place: Place(at) };
     match cursor.step(block, Rule::Unsigned) {
-        Step::Number(value, count, _) => match value {
-            Value::Unsigned(v) => Row::Line(What::Number, v, count),
-            Value::Signed(_) => Row::Finished,
+        Ok(Step::Number(value, count, _)) => match value {
+            Value::Unsigned(v) => Some((What::Number, v, count)),
+            Value::Signed(_) => None,
         },
-        Step::Gap(refusal, _, count, _) => {
+        Ok(Step::Gap(Fault(refusal, _), count, _)) => {
             let length = count.0;
             let what = fault_of(refusal);
-            Row::Line(what, length as u64, count)
+            Some((what, length as u64, count))
         }
-        Step::Tail(count, _) => {
+        Ok(Step::Tail(count, _)) => {
             let length = count.0;
-            Row::Line(What::Tail, length as u64, count)
+            Some((What::Tail, length as u64, count))
         }
-        Step::Finished(_) => Row::Finished,
-        Step::Refused(_) => Row::Finished,
+        Ok(Step::Finished(_)) => None,
+        Err(_) => None,
     }
 }
 
@@ -94,12 +94,12 @@ fn lay_rows(block: &[u8], text: &mut [u8], filled: Count) -> Count
     let mut so_far = filled;
     loop {
         match row_at(block, at) {
-            Row::Line(what, value, count) => {
+            Some((what, value, count)) => {
                 let n = count.0;
                 so_far = lay_row(at, what, value, text, so_far);
                 at += n;
             }
-            Row::Finished => {
+            None => {
                 return so_far;
             }
         }

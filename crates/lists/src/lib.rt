@@ -1,23 +1,32 @@
 // Lists of unsigned numbers: strict reading of a whole block, and writing a list's forms one after another.
 #![tactic(auto)]
 
+ghost use Rattle.std.specs.Prelude.{◌≡◌};
+ghost use Rattle.lists.specs.declared.NotRead.TheVariants.{Faulty};
+
 mod quick;
 mod reading;
 mod writing;
 
 pub use reading::read_strict;
-use words::{Place, Refusal};
+use words::{Fault, Refusal};
 pub use writing::{LIST_LIMIT, write_list};
 
 // A count of numbers: neither a place nor a count of bytes.
 #[derive(Clone, Copy)]
 pub struct Numbers(pub usize);
 
-// What strict reading answers: how many numbers it put to the front of the slice; or the block's first fault, 1, 2 or 3, with the
-// place of the byte that decided it; or 7 or 5.
+// Why strict reading reads nothing: the block's first fault, which is 1, 2 or 3; or else 7 or 5, which no byte decides.
 #[derive(Clone, Copy)]
-pub enum ReadList {
-    Filled(Numbers),
-    Faulty(Refusal, Place),
+pub enum NotRead {
+    Faulty(Fault),
     Refused(Refusal),
+}
+
+impl From<Fault> for NotRead {
+    ghost from_gives = { λ fault r. r ≡ Faulty fault };
+
+    fn from(fault: Fault) -> NotRead {
+        NotRead::Faulty(fault)
+    }
 }

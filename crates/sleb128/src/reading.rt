@@ -1,17 +1,16 @@
 // Reading a signed number. A group is read by its magnitude: m for v, or for -v-1 below zero, where the sum and the last byte are
 // complemented. The last byte's bit of weight 64 tells the sign.
 ghost use Rattle.std.specs.Prelude.{◌≡◌, [], ◌∷◌, ◌^◌, ◌≤◌, ◌<◌, ltb};
-ghost use Rattle.words.specs.Answer.{both};
+ghost use Rattle.words.specs.Answer.{both, means_read};
 ghost use Rattle.groups.specs.Inner.{OneByte};
 ghost use Rattle.groups.specs.Width.{Due};
 ghost use Rattle.sleb128.specs.Signed.{signed as Signed-of, i64};
 ghost use Rattle.sleb128.specs.Inner.{saying, closing, Closes};
-ghost use Rattle.sleb128.specs.Promise.{means_read_i64, ReadsI64};
+ghost use Rattle.sleb128.specs.Promise.{ReadsI64};
 
-use crate::ReadI64;
 use bits::is_high_8_bit_set;
 use groups::{Walked, walk};
-use words::{Count, Place, Refusal};
+use words::{Count, Fault, Place, Refusal};
 
 // Whether the byte at the place is a group of its own: one below 128. Most numbers take one byte, so a reader asks this first.
 fn one_byte(bytes: &[u8], at: usize) -> bool
@@ -67,41 +66,41 @@ fn too_large(high: usize, bits: u64) -> bool
 
 // The number of a group whose high bytes say low and whose last byte says bits: below zero, both are complements. Where it is
 // refused, that byte decides it.
-fn closed(low: u64, weight: u64, high: usize, bits: u64, below: bool, place: Place) -> ReadI64
+fn closed(low: u64, weight: u64, high: usize, bits: u64, below: bool, place: Place) -> Result<(i64, Count), Fault>
     requires { Closes low weight high bits }
-    ensures { Due (closing below low weight high bits place.0) (means_read_i64 result) }
+    ensures { Due (closing below low weight high bits place.0) (means_read result) }
 {
     let large = too_large(high, bits);
     if large {
-        return ReadI64::Refused(Refusal::Overflow, place);
+        return Err(Fault(Refusal::Overflow, place));
     }
     let part = weight * bits;
     let m = low + part;
     let twice = m * 2;
     if twice < weight {
-        return ReadI64::Refused(Refusal::NotShortest, place);
+        return Err(Fault(Refusal::NotShortest, place));
     }
     let n = high + 1;
-    ReadI64::Number(signed(m, below), Count(n))
+    Ok((signed(m, below), Count(n)))
 }
 
 // The number whose shortest form stands at the start, with its count of bytes; else 4, 1, 2 or 3, each with the place of the byte
 // that decided it: the start asked, the end of the bytes, the byte at the greatest length, the last byte.
-pub fn read_i64(bytes: &[u8], start: Place) -> ReadI64
+pub fn read_i64(bytes: &[u8], start: Place) -> Result<(i64, Count), Fault>
     ensures { ReadsI64 bytes.now start.0 result }
 {
     let at = start.0;
     let small = one_byte(bytes, at);
     if small {
         let b = bytes[at];
-        return ReadI64::Number(alone(b), Count(1));
+        return Ok((alone(b), Count(1)));
     }
     match walk(bytes, start) {
-        Walked::Past => ReadI64::Refused(Refusal::Place, start),
-        Walked::Open(_) => ReadI64::Refused(Refusal::End, Place(bytes.len())),
+        Walked::Past => Err(Fault(Refusal::Place, start)),
+        Walked::Open(_) => Err(Fault(Refusal::End, Place(bytes.len()))),
         Walked::Long => {
             let tenth = at + 9;
-            ReadI64::Refused(Refusal::Overflow, Place(tenth))
+            Err(Fault(Refusal::Overflow, Place(tenth)))
         }
         Walked::Closed {
             sum,

@@ -20,8 +20,6 @@ use lib.Seq.{sets, sets-eq}
 use Rattle.words.specs.Lays.{Lays}
 use Rattle.words.specs.declared.Count.{Count}
 use Rattle.words.specs.declared.Refusal.TheVariants as Why
-use Rattle.words.specs.declared.Written.{Written}
-use Rattle.words.specs.declared.Written.TheVariants as W
 use Rattle.words.proofs.Lays.{fits_there, sets_append}
 use Rattle.slips.specs.Good.{Measure, good_word, good}
 use Rattle.slips.specs.Slip.{measures, spread, form}
@@ -31,6 +29,8 @@ use Rattle.slips.specs.declared.Range.{Range}
 use Rattle.slips.specs.declared.Setting.{Setting}
 use Rattle.slips.specs.declared.Setting.TheVariants as S
 use Rattle.slips.proofs.GoodRange.{alone}
+use Rattle.std.specs.Prelude.{Ok, Err}
+use Rattle.words.specs.Answer.{Written}
 
 pub word_stored : (s : List ℕ) (at w : ℕ) → w < 4294967296
     → LaysWord w s at (set (set (set (set s at (w % 256)) (at + 1) (w / 256 % 256)) (at + 2) (w / 256 / 256 % 256)) (at + 3) (w / 256 / 256 / 256))
@@ -44,17 +44,17 @@ word_stored s at w bits =
     record { leaves = rw (i, j, k, last) }
 
 pub lays_stored : (bytes s : List ℕ) (at : ℕ) (n : Count) {out : List ℕ} → at + length bytes ≤ length s → n.0 ≡ length bytes
-    → out ≡ sets s at bytes → Lays bytes s at (W.Bytes n) out
+    → out ≡ sets s at bytes → Lays bytes s at (Ok n) out
 lays_stored bytes s at n room c e = fits_there bytes s at n room c (e ∙ sets-eq bytes s at room)
 
 module _ (s : List ℕ) (at k : ℕ) where
-  pub one_laid : {w : ℕ} {out : List ℕ} → at + 5 ≤ length s → LaysWord w (set s at k) (at + 1) out → Lays (form (k, w ∷ [])) s at (W.Bytes (record { 0 = 5 })) out
+  pub one_laid : {w : ℕ} {out : List ℕ} → at + 5 ≤ length s → LaysWord w (set s at k) (at + 1) out → Lays (form (k, w ∷ [])) s at (Ok (record { 0 = 5 })) out
   one_laid {w} room a =
       let i : at + 1 ≡ suc at = omega arith in
       lays_stored (form (k, w ∷ [])) s at (record { 0 = 5 }) room refl (a.leaves ∙ rw i)
 
   pub two_laid : {w u : ℕ} {mid out : List ℕ} → at + 9 ≤ length s → LaysWord w (set s at k) (at + 1) mid → LaysWord u mid (at + 5) out
-      → Lays (form (k, w ∷ u ∷ [])) s at (W.Bytes (record { 0 = 9 })) out
+      → Lays (form (k, w ∷ u ∷ [])) s at (Ok (record { 0 = 9 })) out
   two_laid {w} {u} room a b =
       let i : at + 1 ≡ suc at = omega arith in
       let j : at + 5 ≡ suc at + length (spread 4 w) = omega arith in
@@ -65,14 +65,14 @@ module _ (v : Setting) (s : List ℕ) (at : ℕ) {k : ℕ} {ws : List ℕ} (e : 
   pub good_written : {r : Written} {out : List ℕ} → good (measures k) ws ≡ true → Lays (form (k, ws)) s at r out → WritesSetting v s at r out
   good_written g l = let t = lt-ltb k 4 known in record { answer = l.answer ∙ rw (e, t, g); leaves = l.leaves ∙ rw (e, t, g) }
 
-  pub bad_refused : good (measures k) ws ≡ false → WritesSetting v s at (W.Refused Why.Slip) s
+  pub bad_refused : good (measures k) ws ≡ false → WritesSetting v s at (Err Why.Slip) s
   bad_refused g = let t = lt-ltb k 4 known in record { answer = rw (e, t, g); leaves = rw (e, t, g) }
 
 module _ (k w : ℕ) {good : Bool} (s : List ℕ) (at : ℕ) where
   pub word_laid : {r : Written} {out : List ℕ} → good ≡ true → Lays (form (k, w ∷ [])) s at r out → WritesWord k w good s at r out
   word_laid e l = record { answer = rw e l.answer; leaves = rw e l.leaves }
 
-  pub word_refused : good ≡ false → WritesWord k w good s at (W.Refused Why.Slip) s
+  pub word_refused : good ≡ false → WritesWord k w good s at (Err Why.Slip) s
   word_refused e = record { answer = rw e; leaves = rw e }
 
 pub word_written : (v : Setting) (s : List ℕ) (at : ℕ) {k bits w : ℕ} (m : Measure) {tested : Bool} {r : Written} {out : List ℕ}

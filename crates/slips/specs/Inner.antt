@@ -3,17 +3,18 @@
 --   Judges k ms ws r     a setting of kind k with these words is answered by r
 --   LaysWord w s at out  the bytes of the word w, stored at the place at of s, leave out
 --   WritesWord           writing a setting of kind k and one word at the place of s answers r and leaves out: 11 unless it is good, then 5
-use Rattle.std.specs.Prelude.{ℕ, Bool, List, [], ◌∷◌, ◌≡◌, length}
+use Rattle.std.specs.Prelude.{ℕ, Bool, List, [], ◌∷◌, ◌≡◌, length, Result}
 use Rattle.std.proofs.lemmas.List.Edits.{sets}
-use Rattle.words.specs.Answer.{pick, refused, by, means_written}
+use Rattle.words.specs.Answer.{pick, refused, by, means_written, Written}
 use Rattle.words.specs.Lays.{writing, laid}
-use Rattle.words.specs.declared.Written.{Written}
 use Rattle.slips.specs.Good.{Measure}
 use Rattle.slips.specs.Slip.{spread, form, judged}
 use Rattle.slips.specs.Promise.{means_read_setting, OfF32}
-use Rattle.slips.specs.declared.ReadSetting.{ReadSetting}
+use Rattle.words.specs.declared.Count.{Count}
+use Rattle.words.specs.declared.Refusal.{Refusal}
+use Rattle.slips.specs.declared.Setting.{Setting}
 
-pub record Judges (k : ℕ) (ms : List Measure) (ws : List ℕ) (r : ReadSetting) : Type 0 where
+pub record Judges (k : ℕ) (ms : List Measure) (ws : List ℕ) (r : Result (Setting × Count) Refusal) : Type 0 where
   pub answer : means_read_setting r ≡ judged k ms ws
   pub f32 : OfF32 r
 

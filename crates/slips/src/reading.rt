@@ -29,79 +29,79 @@ fn word_at(bytes: &[u8], at: usize) -> u32
 }
 
 // The torque of these bits, if it is good; else 11.
-fn read_torque(bits: u32) -> ReadSetting
+fn read_torque(bits: u32) -> Result<(Setting, Count), Refusal>
     ensures { Judges 1 (torque ∷ []) (bits ∷ []) result }
 {
     if good_torque(bits) {
         let torque = f32::from_bits(bits);
-        return ReadSetting::Setting(Setting::Torque(torque), Count(5));
+        return Ok((Setting::Torque(torque), Count(5)));
     }
-    ReadSetting::Refused(Refusal::Slip)
+    Err(Refusal::Slip)
 }
 
 // The angle of these bits, if it is good; else 11.
-fn read_angle(bits: u32) -> ReadSetting
+fn read_angle(bits: u32) -> Result<(Setting, Count), Refusal>
     ensures { Judges 2 (angle ∷ []) (bits ∷ []) result }
 {
     if good_angle(bits) {
         let angle = f32::from_bits(bits);
-        return ReadSetting::Setting(Setting::Angle(angle), Count(5));
+        return Ok((Setting::Angle(angle), Count(5)));
     }
-    ReadSetting::Refused(Refusal::Slip)
+    Err(Refusal::Slip)
 }
 
 // The range of these bits, if it is good; else 11.
-fn read_range(low: u32, high: u32) -> ReadSetting
+fn read_range(low: u32, high: u32) -> Result<(Setting, Count), Refusal>
     ensures { Judges 3 (torque ∷ torque ∷ []) (low ∷ high ∷ []) result }
 {
     if good_range(low, high) {
         let lowest = f32::from_bits(low);
         let highest = f32::from_bits(high);
         let range = Range { lowest, highest };
-        return ReadSetting::Setting(Setting::Range(range), Count(9));
+        return Ok((Setting::Range(range), Count(9)));
     }
-    ReadSetting::Refused(Refusal::Slip)
+    Err(Refusal::Slip)
 }
 
 // Reads the setting at the place; else 4 (past the end), 1 (no byte, or a short body) or 11 (an unknown kind, or a setting that is not good).
-pub fn read_setting(bytes: &[u8], place: Place) -> ReadSetting
+pub fn read_setting(bytes: &[u8], place: Place) -> Result<(Setting, Count), Refusal>
     ensures { ReadsSetting bytes.now place.0 result }
 {
     let at = place.0;
     if bytes.len() < at {
-        return ReadSetting::Refused(Refusal::Place);
+        return Err(Refusal::Place);
     }
     if bytes.len() <= at {
-        return ReadSetting::Refused(Refusal::End);
+        return Err(Refusal::End);
     }
     let kind = bytes[at];
     let start = at + 1;
     let left = bytes.len() - start;
     match kind {
-        0 => ReadSetting::Setting(Setting::Nothing, Count(1)),
+        0 => Ok((Setting::Nothing, Count(1))),
         1 => {
             if left < 4 {
-                return ReadSetting::Refused(Refusal::End);
+                return Err(Refusal::End);
             }
             let bits = word_at(bytes, start);
             read_torque(bits)
         }
         2 => {
             if left < 4 {
-                return ReadSetting::Refused(Refusal::End);
+                return Err(Refusal::End);
             }
             let bits = word_at(bytes, start);
             read_angle(bits)
         }
         3 => {
             if left < 8 {
-                return ReadSetting::Refused(Refusal::End);
+                return Err(Refusal::End);
             }
             let second = start + 4;
             let low = word_at(bytes, start);
             let high = word_at(bytes, second);
             read_range(low, high)
         }
-        4..=255 => ReadSetting::Refused(Refusal::Slip),
+        4..=255 => Err(Refusal::Slip),
     }
 }

@@ -10,7 +10,7 @@ ghost use Rattle.slips.specs.declared.Setting.TheVariants.{Range as Ranged};
 
 use crate::good::{good_angle, good_range, good_torque};
 use crate::{Range, Setting};
-use words::{Count, Place, Refusal, Written, has_room};
+use words::{Count, Place, Refusal, has_room};
 
 // The bits of a float; those of one not-a-number stand for all.
 fn bits_of(x: f32) -> u32
@@ -43,20 +43,20 @@ fn lay_word(bits: u32, buffer: &mut [u8], at: usize)
 }
 
 // Lays the slip of kind 0 down at the place; else 5, and no byte is changed.
-fn lay_nothing(buffer: &mut [u8], place: Place) -> Written
+fn lay_nothing(buffer: &mut [u8], place: Place) -> Result<Count, Refusal>
     ensures { Lays (form (0, [])) buffer.old place.0 result buffer.new }
 {
     let count = Count(1);
     if has_room(buffer.len(), place, count) {
         let at = place.0;
         buffer[at] = 0;
-        return Written::Bytes(count);
+        return Ok(count);
     }
-    Written::Refused(Refusal::NoRoom)
+    Err(Refusal::NoRoom)
 }
 
 // The same of a kind whose body has one word.
-fn lay_one(kind: u8, bits: u32, buffer: &mut [u8], place: Place) -> Written
+fn lay_one(kind: u8, bits: u32, buffer: &mut [u8], place: Place) -> Result<Count, Refusal>
     ensures { Lays (form (kind, bits ∷ [])) buffer.old place.0 result buffer.new }
 {
     let count = Count(5);
@@ -65,13 +65,13 @@ fn lay_one(kind: u8, bits: u32, buffer: &mut [u8], place: Place) -> Written
         buffer[at] = kind;
         let start = at + 1;
         lay_word(bits, buffer, start);
-        return Written::Bytes(count);
+        return Ok(count);
     }
-    Written::Refused(Refusal::NoRoom)
+    Err(Refusal::NoRoom)
 }
 
 // And of one whose body has two.
-fn lay_two(kind: u8, low: u32, high: u32, buffer: &mut [u8], place: Place) -> Written
+fn lay_two(kind: u8, low: u32, high: u32, buffer: &mut [u8], place: Place) -> Result<Count, Refusal>
     ensures { Lays (form (kind, low ∷ high ∷ [])) buffer.old place.0 result buffer.new }
 {
     let count = Count(9);
@@ -82,23 +82,23 @@ fn lay_two(kind: u8, low: u32, high: u32, buffer: &mut [u8], place: Place) -> Wr
         lay_word(low, buffer, start);
         let second = at + 5;
         lay_word(high, buffer, second);
-        return Written::Bytes(count);
+        return Ok(count);
     }
-    Written::Refused(Refusal::NoRoom)
+    Err(Refusal::NoRoom)
 }
 
 // Writes a setting of one word, if it is good; else 11.
-fn write_word(kind: u8, bits: u32, good: bool, buffer: &mut [u8], place: Place) -> Written
+fn write_word(kind: u8, bits: u32, good: bool, buffer: &mut [u8], place: Place) -> Result<Count, Refusal>
     ensures { WritesWord kind bits good buffer.old place.0 result buffer.new }
 {
     if good {
         return lay_one(kind, bits, buffer, place);
     }
-    Written::Refused(Refusal::Slip)
+    Err(Refusal::Slip)
 }
 
 // Writes a range, if it is good; else 11.
-fn write_range(range: Range, buffer: &mut [u8], place: Place) -> Written
+fn write_range(range: Range, buffer: &mut [u8], place: Place) -> Result<Count, Refusal>
     ensures { WritesSetting (Ranged range) buffer.old place.0 result buffer.new }
 {
     let low = bits_of(range.lowest);
@@ -106,11 +106,11 @@ fn write_range(range: Range, buffer: &mut [u8], place: Place) -> Written
     if good_range(low, high) {
         return lay_two(3, low, high, buffer, place);
     }
-    Written::Refused(Refusal::Slip)
+    Err(Refusal::Slip)
 }
 
 // Writes the setting's slip at the place and answers its count of bytes; else 11 (a setting that is not good) or 5, and no byte is changed.
-pub fn write_setting(setting: Setting, buffer: &mut [u8], place: Place) -> Written
+pub fn write_setting(setting: Setting, buffer: &mut [u8], place: Place) -> Result<Count, Refusal>
     ensures { WritesSetting setting buffer.old place.0 result buffer.new }
 {
     match setting {

@@ -10,10 +10,12 @@ use lib.IntN.{ℤ, pos, negsuc}
 use lib.Signed.{lt_z}
 use Rattle.words.proofs.Cases.{clash}
 use Rattle.turns.specs.Turns.{by_thread, means_meaning, Means}
-use Rattle.turns.specs.declared.Meaning.{Meaning}
 use Rattle.turns.specs.declared.Turn.TheVariants.{Tighten, Loosen, Hold}
+use Rattle.std.specs.Prelude.{Result}
+use Rattle.words.specs.declared.Refusal.{Refusal}
+use Rattle.turns.specs.declared.Turn.{Turn}
 
-module _ {code : ℕ} {r : Meaning} where
+module _ {code : ℕ} {r : Result Turn Refusal} where
   pub means_below : (v : ℤ) → lt_z v (pos 0) ≡ true → means_meaning r ≡ by_thread code Loosen Tighten → Means v code r
   means_below (pos n) e u = let h = ltb-true n 0 e in absurd (omega arith)
   means_below (negsuc n) e u = record { is = u }

@@ -27,20 +27,20 @@ pub enum Meaning {
 }
 
 // What a turn means under the thread code, if it means right on a right-hand thread and left on a left-hand one.
-fn under(thread: u8, right: Turn, left: Turn) -> Meaning
+fn under(thread: u8, right: Turn, left: Turn) -> Result<Turn, Refusal>
     ensures { means_meaning result ≡ by_thread thread right left }
 {
     if LEFT < thread {
-        return Meaning::Refused(Refusal::Thread);
+        return Err(Refusal::Thread);
     }
     if thread == RIGHT {
-        return Meaning::Turn(right);
+        return Ok(right);
     }
-    Meaning::Turn(left)
+    Ok(left)
 }
 
 // What the turn means under the thread code. Refuses a code that is neither `RIGHT` nor `LEFT`, whatever the turn.
-pub fn means(quarters: i64, thread: u8) -> Meaning
+pub fn means(quarters: i64, thread: u8) -> Result<Turn, Refusal>
     ensures { Means quarters thread result }
 {
     if quarters < 0 {

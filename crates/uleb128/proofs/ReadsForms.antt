@@ -9,7 +9,7 @@ use mathlib.Core.List.{List}
 use mathlib.Core.Bool.{false}
 use native.Mathlib.Omega.{arith}
 use lib.ListN.{length}
-use Rattle.words.specs.Answer.{Answer, gives}
+use Rattle.words.specs.Answer.{Answer, gives, Reading, means_read}
 use Rattle.groups.specs.Group.{Bytes, run}
 use Rattle.groups.specs.Width.{read}
 use Rattle.groups.specs.Begins.{Begins}
@@ -18,8 +18,6 @@ use Rattle.groups.proofs.Spelling.{said, said_digits, spelled_said}
 use Rattle.groups.proofs.Exact.{accepts, accepted, group_length}
 use Rattle.groups.proofs.Stands.{read_stands, form_read, read_form}
 use Rattle.uleb128.specs.Unsigned.{form, unsigned}
-use Rattle.uleb128.specs.Promise.{means_read_u64}
-use Rattle.uleb128.specs.declared.ReadU64.{ReadU64}
 use Rattle.uleb128.proofs.Forms.{form_spelled}
 use Rattle.uleb128.proofs.Widths.{sound, spells}
 
@@ -45,5 +43,5 @@ module _ (most top : ℕ) (some : 0 < most) (low : top < 128) (s : List ℕ) (at
       (sym (said_digits (form v)) ∙ spelled_said (omega arith) (form_spelled v))
 
 -- what is read is what an answer's case says
-pub case_read : {a : Answer (ℕ × ℕ)} {r q : ReadU64} → means_read_u64 r ≡ a → r ≡ q → a ≡ means_read_u64 q
-case_read p e = sym p ∙ ap means_read_u64 e
+pub case_read : {a : Answer (ℕ × ℕ)} {r q : Reading ℕ} → means_read r ≡ a → r ≡ q → a ≡ means_read q
+case_read p e = sym p ∙ ap means_read e

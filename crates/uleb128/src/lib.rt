@@ -8,23 +8,7 @@ mod reading;
 mod writing;
 
 pub use reading::{read_u32, read_u64};
-use words::{Count, Place, Refusal};
 pub use writing::{length_u32, length_u64, write_u32, write_u64};
 
 // A number below this takes one byte.
 pub const ONE_BYTE: u64 = 128;
-
-// What a reader of 64 bits answers: the number and its count of bytes, or why there is none and the place of the byte that
-// decided it.
-#[derive(Clone, Copy)]
-pub enum ReadU64 {
-    Number(u64, Count),
-    Refused(Refusal, Place),
-}
-
-// The same for 32 bits.
-#[derive(Clone, Copy)]
-pub enum ReadU32 {
-    Number(u32, Count),
-    Refused(Refusal, Place),
-}

@@ -4,7 +4,7 @@ ghost use Rattle.uleb128.specs.Promise.{LengthU64, LengthU32, WritesU64, WritesU
 
 use crate::ONE_BYTE;
 use groups::{Value, spelled_length, store};
-use words::{Count, Place, Written};
+use words::{Count, Place, Refusal};
 
 // How many bytes the number takes: 1 to 10. Most numbers take one, and that is tested first.
 pub fn length_u64(v: u64) -> Count
@@ -24,14 +24,14 @@ pub fn length_u32(v: u32) -> Count
 }
 
 // Lays the number's form down at the place and answers its count of bytes; else 5, and no byte is changed.
-pub fn write_u64(v: u64, buffer: &mut [u8], place: Place) -> Written
+pub fn write_u64(v: u64, buffer: &mut [u8], place: Place) -> Result<Count, Refusal>
     ensures { WritesU64 v buffer.old place.0 result buffer.new }
 {
     store(Value::Unsigned(v), buffer, place)
 }
 
 // The same for a number of 32 bits.
-pub fn write_u32(v: u32, buffer: &mut [u8], place: Place) -> Written
+pub fn write_u32(v: u32, buffer: &mut [u8], place: Place) -> Result<Count, Refusal>
     ensures { WritesU32 v buffer.old place.0 result buffer.new }
 {
     write_u64(v as u64, buffer, place)

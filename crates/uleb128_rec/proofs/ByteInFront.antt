@@ -22,7 +22,7 @@ use borrow.Author.Tests.{lt-ltb, le-ltb, le-leb, lt-leb, eq-eqb, ne_eqb}
 use lib.Dec.{ltb, eqb, leb-suc-suc, eqb-suc-suc}
 use lib.ListN.{length, get_or, take, drop, drop_of_length-le, get_or-eq_default}
 use lib.Seq.{drop-cons}
-use Rattle.words.specs.Answer.{pick, Answer, gives, refused, by_at, Why, moved_why, moved}
+use Rattle.words.specs.Answer.{pick, Answer, gives, refused, by_at, Why, moved_why, moved, Reading, means_read}
 use Rattle.words.specs.declared.Count.{Count}
 use Rattle.words.proofs.Cases.{by_order, by_test, both_false}
 use Rattle.words.proofs.Moved.{moved_twice, same_place}
@@ -33,12 +33,10 @@ use Rattle.groups.proofs.Rows.{read_from, row_end, row_large, row_number, due_ke
 use Rattle.groups.proofs.FromWalk.{overrun_large}
 use Rattle.groups.proofs.Stands.{read_stands, count_within}
 use Rattle.uleb128.specs.Unsigned.{unsigned}
-use Rattle.uleb128.specs.Promise.{means_read_u64}
-use Rattle.uleb128.specs.declared.ReadU64.{ReadU64}
-use Rattle.uleb128.specs.declared.ReadU64.TheVariants.{Number}
 use Rattle.uleb128.proofs.Widths.{sound}
 use Rattle.uleb128.proofs.ReadsForms.{read_begins}
 use Rattle.uleb128_rec.specs.Inner.{Joins, byte_ahead}
+use Rattle.std.specs.Prelude.{Ok}
 
 -- a number that is one byte 0
 zero_alone : (l : List ℕ) → run l ≡ 0 → get_or l (run l) 0 ≡ 0 → digits (take (run l + 1) l) ≡ 0
@@ -172,17 +170,17 @@ reads_joins most s at (gives x) some few bytes p =
     (omega arith, omega arith)
 reads_joins most s at (refused k) some few bytes p = tt
 
-pub joins_room : {r : ReadU64} {v : ℕ} {n : Count} → r ≡ Number v n → Joins (means_read_u64 r) → (v < 2 ^ 57) × (n.0 < 10)
+pub joins_room : {r : Reading ℕ} {v : ℕ} {n : Count} → r ≡ Ok (v, n) → Joins (means_read r) → (v < 2 ^ 57) × (n.0 < 10)
 joins_room e j = rw e at j
 
 -- a byte in front of an answer, by its case
-module _ (b p : ℕ) {r : ReadU64} where
-  module _ {v : ℕ} {n : Count} (e : r ≡ Number v n) where
-    pub ahead_zero : v < 1 → byte_ahead b p (means_read_u64 r) ≡ refused (by_at 3 p)
+module _ (b p : ℕ) {r : Reading ℕ} where
+  module _ {v : ℕ} {n : Count} (e : r ≡ Ok (v, n)) where
+    pub ahead_zero : v < 1 → byte_ahead b p (means_read r) ≡ refused (by_at 3 p)
     ahead_zero z = rw (e, eq-eqb v 0 (omega arith))
 
-    pub ahead_number : 1 ≤ v → byte_ahead b p (means_read_u64 r) ≡ gives (b % 128 + 128 * v, n.0 + 1)
+    pub ahead_number : 1 ≤ v → byte_ahead b p (means_read r) ≡ gives (b % 128 + 128 * v, n.0 + 1)
     ahead_number z = rw (e, ne_eqb v 0 (λ q. omega arith))
 
-  pub ahead_case : {q : ReadU64} → r ≡ q → byte_ahead b p (means_read_u64 r) ≡ byte_ahead b p (means_read_u64 q)
+  pub ahead_case : {q : Reading ℕ} → r ≡ q → byte_ahead b p (means_read r) ≡ byte_ahead b p (means_read q)
   ahead_case e = rw e

@@ -16,13 +16,13 @@ use native.Mathlib.Omega.{arith}
 use lib.ListN.{length, set}
 use lib.Seq.{sets, sets-eq, set_comm}
 use Rattle.words.specs.Lays.{Lays}
-use Rattle.words.specs.declared.Written.TheVariants.{Bytes}
 use Rattle.words.proofs.Lays.{fits_there}
 use Rattle.bits.specs.Macros.{take_low_7_bits_lem, set_high_8_bit_lem}
 use Rattle.bits.proofs.HighBit.{set_seven}
 use Rattle.uleb128.specs.Unsigned.{form}
 use Rattle.uleb128.proofs.Forms.{form_small, form_large, form_some}
 use Rattle.uleb128_rec.specs.Inner.{WritesRest, RestFits}
+use Rattle.std.specs.Prelude.{Ok}
 
 -- a store before a run of stores goes ahead of it
 set_ahead : (g s : List ℕ) (i j b : ℕ) → i < j → set (sets s j g) i b ≡ sets (set s i b) j g
@@ -68,5 +68,5 @@ module _ (v : ℕ) (s : List ℕ) (at : ℕ) where
     fits_count h w = omega (arith, k.few, w.count, ap length (form_large v (omega arith)))
 
 pub all_written : (v : ℕ) (s : List ℕ) (at r : ℕ) {out : List ℕ} → at + length (form v) ≤ length s → WritesRest v s at r out
-    → Lays (form v) s at (Bytes (record { 0 = r })) out
+    → Lays (form v) s at (Ok (record { 0 = r })) out
 all_written v s at r h w = fits_there (form v) s at (record { 0 = r }) h w.count (w.leaves ∙ sets-eq (form v) s at h)

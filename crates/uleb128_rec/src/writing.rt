@@ -5,7 +5,7 @@ ghost use Rattle.uleb128_rec.specs.Inner.{WritesRest, RestFits};
 
 use bits::{set_high_8_bit, take_low_7_bits};
 use uleb128::length_u64;
-use words::{Count, Place, Refusal, Written, has_room};
+use words::{Count, Place, Refusal, has_room};
 
 // Stores the number's form of at most left bytes, which fits, the last byte first, and answers how many bytes it has.
 fn write_rest(v: u64, buffer: &mut [u8], at: usize, left: usize) -> usize
@@ -27,16 +27,16 @@ fn write_rest(v: u64, buffer: &mut [u8], at: usize, left: usize) -> usize
 }
 
 // The same answers as `write_u64`, and the same bytes.
-pub fn write_u64_rec(v: u64, buffer: &mut [u8], place: Place) -> Written
+pub fn write_u64_rec(v: u64, buffer: &mut [u8], place: Place) -> Result<Count, Refusal>
     ensures { WritesU64Rec v buffer.old place.0 result buffer.new }
 {
     let needed = length_u64(v);
     let room = has_room(buffer.len(), place, needed);
     if !room {
-        return Written::Refused(Refusal::NoRoom);
+        return Err(Refusal::NoRoom);
     }
     let at = place.0;
     let n = needed.0;
     let count = write_rest(v, buffer, at, n);
-    Written::Bytes(Count(count))
+    Ok(Count(count))
 }

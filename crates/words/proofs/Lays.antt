@@ -16,14 +16,13 @@ use borrow.Author.Tests.{le-leb, lt-leb, leb-true, leb-false}
 use lib.Dec.{leb}
 use lib.ListN.{length, take, drop, set}
 use lib.Seq.{sets}
-use Rattle.words.specs.Answer.{gives}
+use Rattle.words.specs.Answer.{gives, Written}
 use Rattle.words.specs.Lays.{writing, laid, Lays}
 use Rattle.words.specs.Promise.{HasRoom}
 use Rattle.words.specs.declared.Count.{Count}
 use Rattle.words.specs.declared.Refusal.TheVariants.{NoRoom}
-use Rattle.words.specs.declared.Written.{Written}
-use Rattle.words.specs.declared.Written.TheVariants.{Bytes, Refused}
 use Rattle.words.proofs.Cases.{by_order}
+use Rattle.std.specs.Prelude.{Ok, Err}
 
 module _ (size at n : ℕ) where
   pub room_none : size < at → HasRoom size at n false
@@ -45,17 +44,17 @@ module _ {size at n : ℕ} {r : Bool} (p : HasRoom size at n r) where
   room_there e = leb-true (at + n) size (sym p.is ∙ e)
 
 module _ (bytes s : List ℕ) (at : ℕ) where
-  pub no_room : length s < at + length bytes → Lays bytes s at (Refused NoRoom) s
+  pub no_room : length s < at + length bytes → Lays bytes s at (Err NoRoom) s
   unfolding writing laid
   no_room h =
       let t = lt-leb (at + length bytes) (length s) h in
       record { answer = rw t; leaves = rw t }
 
-  pub room_refused : {n : ℕ} {r : Bool} → HasRoom (length s) at n r → n ≡ length bytes → r ≡ false → Lays bytes s at (Refused NoRoom) s
+  pub room_refused : {n : ℕ} {r : Bool} → HasRoom (length s) at n r → n ≡ length bytes → r ≡ false → Lays bytes s at (Err NoRoom) s
   room_refused p e f = no_room (rw e at (room_full p f))
 
   pub fits_there : (n : Count) {out : List ℕ} → at + length bytes ≤ length s → n.0 ≡ length bytes
-      → out ≡ take at s ++ bytes ++ drop (at + length bytes) s → Lays bytes s at (Bytes n) out
+      → out ≡ take at s ++ bytes ++ drop (at + length bytes) s → Lays bytes s at (Ok n) out
   unfolding writing laid
   fits_there n {out} h e f =
       let t = le-leb (at + length bytes) (length s) h in
@@ -63,8 +62,8 @@ module _ (bytes s : List ℕ) (at : ℕ) where
 
   pub some_lays : (r : Written) × (out : List ℕ) × Lays bytes s at r out
   some_lays =
-      by_order (length s) (at + length bytes) (λ h. (Refused NoRoom, s, no_room h))
-      (λ h. (Bytes (record { 0 = length bytes }), take at s ++ bytes ++ drop (at + length bytes) s, fits_there (record { 0 = length bytes }) h refl refl))
+      by_order (length s) (at + length bytes) (λ h. (Err NoRoom, s, no_room h))
+      (λ h. (Ok (record { 0 = length bytes }), take at s ++ bytes ++ drop (at + length bytes) s, fits_there (record { 0 = length bytes }) h refl refl))
 
 pub sets_append : (a b l : List ℕ) (i : ℕ) → sets l i (a ++ b) ≡ sets (sets l i a) (i + length a) b
 sets_append [] b l i = rw (add-zero i)

@@ -12,35 +12,34 @@ use native.Mathlib.Omega.{arith}
 use borrow.Author.Tests.{le-leb, lt-leb}
 use lib.ListN.{length, take, drop, length-append, length-drop}
 use lib.Seq.{length-take-le, drop-append_seam, take-append_seam}
-use Rattle.words.specs.Answer.{gives, means_written}
+use Rattle.words.specs.Answer.{gives, means_written, Written}
 use Rattle.words.specs.Lays.{writing, laid, Lays, LaysExactly}
 use Rattle.words.specs.declared.Count.{Count}
 use Rattle.words.specs.declared.Refusal.TheVariants.{NoRoom}
-use Rattle.words.specs.declared.Written.{Written}
-use Rattle.words.specs.declared.Written.TheVariants.{Bytes, Refused}
 use Rattle.words.proofs.Cases.{by_order}
 use Rattle.words.proofs.OneMeaning.{same_written, apart}
+use Rattle.std.specs.Prelude.{Ok, Err}
 
 module _ (bytes s : List ℕ) (at : ℕ) (r : Written) (out : List ℕ) (w : Lays bytes s at r out) where
-  pub laid_fits : at + length bytes ≤ length s → (r ≡ Bytes (record { 0 = length bytes })) × (out ≡ take at s ++ bytes ++ drop (at + length bytes) s)
+  pub laid_fits : at + length bytes ≤ length s → (r ≡ Ok (record { 0 = length bytes })) × (out ≡ take at s ++ bytes ++ drop (at + length bytes) s)
   unfolding writing laid
   laid_fits h =
       let t = le-leb (at + length bytes) (length s) h in
-      (same_written r (Bytes (record { 0 = length bytes })) (w.answer ∙ rw t), w.leaves ∙ rw t)
+      (same_written r (Ok (record { 0 = length bytes })) (w.answer ∙ rw t), w.leaves ∙ rw t)
 
-  pub laid_no_room : length s < at + length bytes → (r ≡ Refused NoRoom) × (out ≡ s)
+  pub laid_no_room : length s < at + length bytes → (r ≡ Err NoRoom) × (out ≡ s)
   unfolding writing laid
   laid_no_room h =
       let t = lt-leb (at + length bytes) (length s) h in
-      (same_written r (Refused NoRoom) (w.answer ∙ rw t), w.leaves ∙ rw t)
+      (same_written r (Err NoRoom) (w.answer ∙ rw t), w.leaves ∙ rw t)
 
-  pub count_fits : (n : Count) → r ≡ Bytes n → (at + length bytes ≤ length s) × (n.0 ≡ length bytes)
+  pub count_fits : (n : Count) → r ≡ Ok n → (at + length bytes ≤ length s) × (n.0 ≡ length bytes)
   count_fits n e =
       by_order (length s) (at + length bytes)
       (λ h. apart (ap means_written (sym e ∙ (laid_no_room h).0)))
       (λ h. let q : gives n.0 ≡ gives (length bytes) = ap means_written (sym e ∙ (laid_fits h).0) in (h, cc))
 
-  pub laid_there : (n : Count) → r ≡ Bytes n → (n.0 ≡ length bytes) × (take n.0 (drop at out) ≡ bytes)
+  pub laid_there : (n : Count) → r ≡ Ok n → (n.0 ≡ length bytes) × (take n.0 (drop at out) ≡ bytes)
   laid_there n e =
       let c = count_fits n e in
       let rest = drop (at + length bytes) s in

@@ -16,14 +16,13 @@ use lib.ListN.{length, length-append}
 use lib.Seq.{sets, sets-eq, length-sets}
 use Rattle.words.specs.Inner.{Puts}
 use Rattle.words.specs.Lays.{Lays}
-use Rattle.words.specs.Answer.{means_written}
+use Rattle.words.specs.Answer.{means_written, Written}
 use Rattle.words.specs.declared.Count.{Count}
 use Rattle.words.specs.declared.Refusal.{Refusal}
-use Rattle.words.specs.declared.Written.{Written}
-use Rattle.words.specs.declared.Written.TheVariants.{Bytes, Refused}
 use Rattle.words.proofs.Lays.{fits_there, sets_append}
 use Rattle.words.proofs.LaysExactly.{laid_fits, count_fits}
 use Rattle.words.proofs.OneMeaning.{apart}
+use Rattle.std.specs.Prelude.{Ok, Err}
 
 pub record Laying (all s : List ℕ) (at : ℕ) (out : List ℕ) (to : ℕ) (rest : List ℕ) : Type 0 where
   pub kept : length out ≡ length s
@@ -52,15 +51,15 @@ module _ {all s : List ℕ} {at : ℕ} {out : List ℕ} {to : ℕ} {rest : List 
   rest_fits h = omega (arith, g.ends, g.kept)
 
 pub puts_lays : {all s : List ℕ} {at to : ℕ} {out : List ℕ} (n : Count) → at + length all ≤ length s → n.0 ≡ length all → Puts all s at to out
-    → Lays all s at (Bytes n) out
+    → Lays all s at (Ok n) out
 puts_lays {all} {s} {at} n r e p = fits_there all s at n r e (p.leaves ∙ sets-eq all s at r)
 
 module _ {bytes s : List ℕ} {at : ℕ} {r : Written} {out : List ℕ} (room : at + length bytes ≤ length s) (w : Lays bytes s at r out) where
-  pub lays_puts : {n : Count} → r ≡ Bytes n → Puts bytes s at (at + n.0) out
+  pub lays_puts : {n : Count} → r ≡ Ok n → Puts bytes s at (at + n.0) out
   lays_puts {n} e = record {
     behind = ap (◌+◌ at) (count_fits bytes s at r out w n e).1;
     leaves = (laid_fits bytes s at r out w room).1 ∙ sym (sets-eq bytes s at room);
   }
 
-  pub no_refusal : {X : Type 0} {why : Refusal} → r ≡ Refused why → X
+  pub no_refusal : {X : Type 0} {why : Refusal} → r ≡ Err why → X
   no_refusal e = apart (ap means_written (sym (laid_fits bytes s at r out w room).0 ∙ e))

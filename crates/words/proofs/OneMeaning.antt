@@ -17,12 +17,11 @@ use mathlib.Core.List.{List}
 use mathlib.Core.Path.{◌≡◌, refl, ap, sym, ◌∙◌, subst}
 use mathlib.Core.Logic.{◌↔◌}
 use native.Mathlib.Omega.{arith}
-use Rattle.words.specs.Answer.{Answer, gives, refused, means_written, because, because_at, Why, by, by_at, number_in}
+use Rattle.words.specs.Answer.{Answer, gives, refused, means_written, because, because_at, Why, by, by_at, number_in, Written}
 use Rattle.words.specs.Lays.{Lays}
 use Rattle.words.specs.declared.Refusal.{Refusal}
-use Rattle.words.specs.declared.Written.{Written}
-use Rattle.words.specs.declared.Written.TheVariants as W
 use Rattle.words.proofs.OneNumber.{refusal_of, refusal_back, same_refusal}
+use Rattle.std.specs.Prelude.{Ok, Err}
 
 pub apart : {A X : Type 0} {a : A} {k : Why} → ◌≡◌ {A = Answer A} (gives a) (refused k) → X
 apart e = let z : ◌≡◌ {A = ℕ} 0 1 = cc in absurd (omega arith)
@@ -66,8 +65,8 @@ back give refuse (refused k) = refuse (refusal_of (number_in k))
 
 pub same_written : (r r' : Written) → means_written r ≡ means_written r' → r ≡ r'
 same_written =
-    same_by means_written (back (λ (n : ℕ). W.Bytes (record { 0 = n })) W.Refused)
-    (λ r. elim r as (λ k. back (λ (n : ℕ). W.Bytes (record { 0 = n })) W.Refused (means_written k) ≡ k) [ W.Bytes n ↦ refl | W.Refused a ↦ ap W.Refused (refusal_back a) ])
+    same_by means_written (back (λ (n : ℕ). Ok (record { 0 = n })) Err)
+    (λ r. elim r as (λ k. back (λ (n : ℕ). Ok (record { 0 = n })) Err (means_written k) ≡ k) [ Ok n ↦ refl | Err a ↦ ap Err (refusal_back a) ])
 
 pub same_lays : {bytes s : List ℕ} {at : ℕ} {r r' : Written} {out out' : List ℕ} → Lays bytes s at r out → Lays bytes s at r' out'
     → (r ≡ r') × (out ≡ out')

@@ -6,12 +6,10 @@
 --   Lays bytes s at r out   a writer that is to lay down these bytes at this place of s answers r and leaves out
 --   LaysExactly             what that comes to, in the words of row 5
 --   Takes bytes r           a length that is to count these bytes answers r
-use Rattle.std.specs.Prelude.{ℕ, ◌+◌, ◌≤◌, ◌<◌, Bool, List, ◌++◌, ◌≡◌, ◌↔◌, leb, length, take, drop}
-use Rattle.words.specs.Answer.{pick, Answer, gives, refused, means_written, by}
+use Rattle.std.specs.Prelude.{ℕ, ◌+◌, ◌≤◌, ◌<◌, Bool, List, ◌++◌, ◌≡◌, ◌↔◌, leb, length, take, drop, Ok, Err}
+use Rattle.words.specs.Answer.{pick, Answer, gives, refused, means_written, by, Written}
 use Rattle.words.specs.declared.Count.{Count}
 use Rattle.words.specs.declared.Refusal.TheVariants.{NoRoom}
-use Rattle.words.specs.declared.Written.{Written}
-use Rattle.words.specs.declared.Written.TheVariants.{Bytes, Refused}
 
 abbrev pub fits : ℕ → ℕ → ℕ → Bool
 fits size at n = leb (at + n) size
@@ -31,8 +29,8 @@ pub record Lays (bytes s : List ℕ) (at : ℕ) (r : Written) (out : List ℕ) :
 abbrev pub LaysExactly : (bytes before : List ℕ) (at : ℕ) (r : Written) (after : List ℕ) → Type 0
 LaysExactly bytes before at r after =
     ((at + length bytes ≤ length before)
-    ↔ ((r ≡ Bytes (record { 0 = length bytes })) × (after ≡ take at before ++ bytes ++ drop (at + length bytes) before)))
-    × ((length before < at + length bytes) ↔ ((r ≡ Refused NoRoom) × (after ≡ before)))
+    ↔ ((r ≡ Ok (record { 0 = length bytes })) × (after ≡ take at before ++ bytes ++ drop (at + length bytes) before)))
+    × ((length before < at + length bytes) ↔ ((r ≡ Err NoRoom) × (after ≡ before)))
     × (length after ≡ length before)
 
 pub record Takes (bytes : List ℕ) (r : Count) : Type 0 where

@@ -29,12 +29,9 @@ pub enum Refusal {
     Tree,
 }
 
-// What a writer answers: the count of bytes that it laid down, or why it laid none.
+// A refusal, and the place of the byte that decided it.
 #[derive(Clone, Copy)]
-pub enum Written {
-    Bytes(Count),
-    Refused(Refusal),
-}
+pub struct Fault(pub Refusal, pub Place);
 
 // The number of a refusal.
 pub fn number(refusal: Refusal) -> u8
@@ -60,11 +57,5 @@ pub fn number(refusal: Refusal) -> u8
 pub fn has_room(size: usize, place: Place, count: Count) -> bool
     ensures { HasRoom size place.0 count.0 result }
 {
-    let at = place.0;
-    let n = count.0;
-    if size < at {
-        return false;
-    }
-    let room = size - at;
-    n <= room
+    place.0 <= size && count.0 <= size - place.0
 }

@@ -1,16 +1,12 @@
 -- `blocks::long` keeps what it promises inside the crate: by each rule a law of `GroupReading` for a number, and one for a refusal.
-use Rattle.std.proofs.Common.{ℕ, ◌+◌, ◌≤◌, ◌≡◌, List, length, ap, sym, ◌∙◌, arith, rules}
+use Rattle.std.proofs.Common.{ℕ, ◌+◌, ◌≤◌, ◌≡◌, List, length, ap, sym, ◌∙◌, arith, rules, Ok}
 use Rattle.groups.specs.Group.{Bytes}
 use Rattle.groups.proofs.SignedWords.{word_back}
 use Rattle.uleb128.specs.Unsigned.{u64}
-use Rattle.uleb128.specs.Promise.{means_read_u64, ReadsU64}
-use Rattle.uleb128.specs.declared.ReadU64.{ReadU64}
-use Rattle.uleb128.specs.declared.ReadU64.TheVariants as RU
+use Rattle.uleb128.specs.Promise.{ReadsU64}
 use Rattle.uleb128.proofs.Widths as U
 use Rattle.sleb128.specs.Signed.{i64}
-use Rattle.sleb128.specs.Promise.{means_read_i64, ReadsI64}
-use Rattle.sleb128.specs.declared.ReadI64.{ReadI64}
-use Rattle.sleb128.specs.declared.ReadI64.TheVariants as RI
+use Rattle.sleb128.specs.Promise.{ReadsI64}
 use Rattle.sleb128.proofs.Widths as S
 use Rattle.std.specs.Prelude.{ℤ}
 use Rattle.words.specs.declared.Count.{Count}
@@ -20,53 +16,55 @@ use Rattle.blocks.specs.declared.Rule.{Rule}
 use Rattle.blocks.specs.declared.Rule.TheVariants.{Unsigned, Signed}
 use Rattle.blocks.proofs.GroupReading.{reads_number, reads_none, decided_high}
 use Rattle.blocks.proofs.long.Goals as goal
+use Rattle.words.specs.Answer.{Reading}
+use Rattle.words.specs.Answer.{means_read}
 
 -- by the unsigned rule
-says_u : (s : List ℕ) (at : ℕ) {rule : Rule} {r : ReadU64} (v : ℕ) (n : Count) → Bytes s → rule ≡ Unsigned → ReadsU64 s at r → r ≡ RU.Number v n
+says_u : (s : List ℕ) (at : ℕ) {rule : Rule} {r : Reading ℕ} (v : ℕ) (n : Count) → Bytes s → rule ≡ Unsigned → ReadsU64 s at r → r ≡ Ok (v, n)
     → (at + n.0 ≤ length s) × (standing rule s at ≡ number (unsigned v) n.0 (at + n.0))
 says_u s at v n bytes e read is =
     reads_number _ _ bytes _ unsigned u64 (λ (g : List ℕ). ap (λ (rule : Rule). read_by rule g) e) (U.sound 10 1 (omega arith) (omega arith))
-    (sym read.is ∙ ap means_read_u64 is)
+    (sym read.is ∙ ap means_read is)
 
 -- by the signed rule
-says_s : (s : List ℕ) (at : ℕ) {rule : Rule} {r : ReadI64} (v : ℤ) (n : Count) → Bytes s → rule ≡ Signed → ReadsI64 s at r → r ≡ RI.Number v n
+says_s : (s : List ℕ) (at : ℕ) {rule : Rule} {r : Reading ℤ} (v : ℤ) (n : Count) → Bytes s → rule ≡ Signed → ReadsI64 s at r → r ≡ Ok (v, n)
     → (at + n.0 ≤ length s) × (standing rule s at ≡ number (signed v) n.0 (at + n.0))
 says_s s at v n bytes e read is =
-    reads_number _ _ bytes _ signed i64 (λ (g : List ℕ). ap (λ (rule : Rule). read_by rule g) e) S.sound (sym read.is ∙ ap means_read_i64 is)
+    reads_number _ _ bytes _ signed i64 (λ (g : List ℕ). ap (λ (rule : Rule). read_by rule g) e) S.sound (sym read.is ∙ ap means_read is)
 
 pub past-requires : goal.past-requires
 past-requires c =
-    omega (arith, (says_u c.args.block.now c.args.at c.in-Number.v c.in-Number.count (λ i. (c.type_inv.block i).fits) c.in-Unsigned.is c.read_u64.ensures c.in-Number.is).0)
+    omega (arith, (says_u c.args.block.now c.args.at c.in-Ok.v c.in-Ok.count (λ i. (c.type_inv.block i).fits) c.in-Unsigned.is c.read_u64.ensures c.in-Ok.is).0)
 
 pub unread-requires : goal.unread-requires
-unread-requires c = decided_high _ _ u64 (search rules) c.in-Refused.refusal _ (sym c.read_u64.ensures.is ∙ ap means_read_u64 c.in-Refused.is)
+unread-requires c = decided_high _ _ u64 (search rules) c.in-Err.fault.0 _ (sym c.read_u64.ensures.is ∙ ap means_read c.in-Err.is)
 
-pub returns-in-Number : goal.returns-in-Number
-returns-in-Number c =
+pub returns-in-Ok : goal.returns-in-Ok
+returns-in-Ok c =
     rw c.past.ensures
-    (sym (says_u c.args.block.now c.args.at c.in-Number.v c.in-Number.count (λ i. (c.type_inv.block i).fits) c.in-Unsigned.is c.read_u64.ensures c.in-Number.is).1)
+    (sym (says_u c.args.block.now c.args.at c.in-Ok.v c.in-Ok.count (λ i. (c.type_inv.block i).fits) c.in-Unsigned.is c.read_u64.ensures c.in-Ok.is).1)
 
-pub returns-in-Refused : goal.returns-in-Refused
-returns-in-Refused c =
+pub returns-in-Err : goal.returns-in-Err
+returns-in-Err c =
     reads_none _ _ (λ i. (c.type_inv.block i).fits) _ unsigned u64 (λ (g : List ℕ). ap (λ (rule : Rule). read_by rule g) c.in-Unsigned.is)
-    (search rules) (sym c.read_u64.ensures.is ∙ ap means_read_u64 c.in-Refused.is) c.unread.ensures
+    (search rules) (sym c.read_u64.ensures.is ∙ ap means_read c.in-Err.is) c.unread.ensures
 
-pub past-requires-in-Number-read_i64 : goal.past-requires-in-Number-read_i64
-past-requires-in-Number-read_i64 c =
-    let w = c.in-Number-read_i64 in
+pub past-requires-in-Ok-read_i64 : goal.past-requires-in-Ok-read_i64
+past-requires-in-Ok-read_i64 c =
+    let w = c.in-Ok-read_i64 in
     omega (arith, (says_s c.args.block.now c.args.at w.v w.count (λ i. (c.type_inv.block i).fits) c.in-Signed.is c.read_i64.ensures w.is).0)
 
-pub unread-requires-in-Refused-read_i64 : goal.unread-requires-in-Refused-read_i64
-unread-requires-in-Refused-read_i64 c =
-    let w = c.in-Refused-read_i64 in decided_high _ _ i64 (search rules) w.refusal _ (sym c.read_i64.ensures.is ∙ ap means_read_i64 w.is)
+pub unread-requires-in-Err-read_i64 : goal.unread-requires-in-Err-read_i64
+unread-requires-in-Err-read_i64 c =
+    let w = c.in-Err-read_i64 in decided_high _ _ i64 (search rules) w.fault.0 _ (sym c.read_i64.ensures.is ∙ ap means_read w.is)
 
-pub returns-in-Number-read_i64 : goal.returns-in-Number-read_i64
-returns-in-Number-read_i64 c =
-    let w = c.in-Number-read_i64 in
-    rw (c.past-in-Number-read_i64.ensures, word_back w.v (search rules))
+pub returns-in-Ok-read_i64 : goal.returns-in-Ok-read_i64
+returns-in-Ok-read_i64 c =
+    let w = c.in-Ok-read_i64 in
+    rw (c.past-in-Ok-read_i64.ensures, word_back w.v (search rules))
     (sym (says_s c.args.block.now c.args.at w.v w.count (λ i. (c.type_inv.block i).fits) c.in-Signed.is c.read_i64.ensures w.is).1)
 
-pub returns-in-Refused-read_i64 : goal.returns-in-Refused-read_i64
-returns-in-Refused-read_i64 c =
+pub returns-in-Err-read_i64 : goal.returns-in-Err-read_i64
+returns-in-Err-read_i64 c =
     reads_none _ _ (λ i. (c.type_inv.block i).fits) _ signed i64 (λ (g : List ℕ). ap (λ (rule : Rule). read_by rule g) c.in-Signed.is)
-    (search rules) (sym c.read_i64.ensures.is ∙ ap means_read_i64 c.in-Refused-read_i64.is) c.unread-in-Refused-read_i64.ensures
+    (search rules) (sym c.read_i64.ensures.is ∙ ap means_read c.in-Err-read_i64.is) c.unread-in-Err-read_i64.ensures

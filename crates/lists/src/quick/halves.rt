@@ -6,7 +6,7 @@ ghost use Rattle.lists.specs.InnerHalves.{Ready, Steps, RestFits, RestStored, Ha
 use crate::quick::lows::low_bytes;
 use crate::quick::wide::{at_once, store16};
 use bits::is_high_8_bit_set;
-use uleb128::{ReadU64, read_u64};
+use uleb128::read_u64;
 use words::Place;
 
 // How far a stream has come: its place in the block, and how many numbers stand in the slice before its next.
@@ -40,13 +40,13 @@ fn rest(s: &[u8], numbers: &mut [u64], from: usize, to: usize, start: usize)
     let mut n = start;
     while at < to {
         match read_u64(s, Place(at)) {
-            ReadU64::Number(v, count) => {
+            Ok((v, count)) => {
                 let taken = count.0;
                 numbers[n] = v;
                 at += taken;
                 n += 1;
             }
-            ReadU64::Refused(_, _) => {
+            Err(_) => {
                 return;
             }
         }

@@ -1,19 +1,18 @@
 -- `listing::lay_rows` keeps what it promises inside the crate: each turn of its loop is a law of `Laid`, by what the row says that stands there.
-use Rattle.std.proofs.Common.{◌≡◌, ℕ, ◌≤◌, List, [], length, arith}
+use Rattle.std.proofs.Common.{◌≡◌, ℕ, ◌≤◌, List, [], length, arith, Some, None}
 use Rattle.words.specs.declared.Count.{Count}
 use Rattle.blocks.specs.Block.{block_limit}
 use Rattle.listing.specs.Inner.{word_of, SaysRow}
 use Rattle.listing.specs.declared.rows.What.{What}
-use Rattle.listing.specs.declared.rows.Row.TheVariants as R
 use Rattle.listing.proofs.RowsLeft.{Here, Behind, left, rowing, no_row, next_row}
 use Rattle.listing.proofs.Laid.{row_more, rows_ended}
 use Rattle.listing.proofs.rows.lay_rows.Goals as goal
 
 module _ {s : List ℕ} {p : ℕ} (short : length s ≤ block_limit) (here : Here s p) where
-  stands : {w : What} {v : ℕ} {n : Count} → SaysRow s p (R.Line w v n) → Behind s p (word_of w) v n.0
+  stands : {w : What} {v : ℕ} {n : Count} → SaysRow s p (Some (w, v, n)) → Behind s p (word_of w) v n.0
   stands said = next_row (rowing s p short here) said.is
 
-  none_left : SaysRow s p R.Finished → left s p ≡ []
+  none_left : SaysRow s p None → left s p ≡ []
   none_left said = no_row (rowing s p short here) said.is
 
 pub overflow_add-at : goal.overflow_add-at

@@ -5,8 +5,7 @@ use Rattle.lists.proofs.StrictAnswers.{slice_fits, slice_filled}
 use Rattle.lists.proofs.reading.read_strict.Goals as goal
 
 pub fill-requires : goal.fill-requires
-fill-requires c = slice_fits _ (λ i. (c.type_inv.block i).fits) c.in-Count.ensures.is (omega arith)
+fill-requires c = slice_fits _ (λ i. (c.type_inv.block i).fits) c.in_ok-count.ensures.is (omega arith)
 
-pub returns-else-numbers-count : goal.returns-else-numbers-count
-returns-else-numbers-count c =
-    slice_filled _ _ (omega arith) c.in-Count.ensures.is (λ i. (c.type_inv.block i).fits) (omega arith) refl c.fill.ensures
+pub returns : goal.returns
+returns c = slice_filled _ _ (omega arith) c.in_ok-count.ensures.is (λ i. (c.type_inv.block i).fits) (omega arith) refl c.fill.ensures

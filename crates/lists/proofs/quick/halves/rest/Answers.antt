@@ -7,9 +7,9 @@ pub loop-at-init : goal.loop-at-init
 loop-at-init c = none_poured _ c.requires
 
 -- the number read
-passed : (c : goal.In-Number) → OnePoured c.args.s.now c.args.from c.args.to c.args.start c.args.numbers.now c.loop-at.numbers c.loop-at.at
-    c.loop-at.n c.in-Number.v c.in-Number.count.0
-passed c = one_poured c.loop-at.invariant c.loop-at-test.true (rw c.in-Number.is at c.read_u64.ensures.is)
+passed : (c : goal.In-Ok) → OnePoured c.args.s.now c.args.from c.args.to c.args.start c.args.numbers.now c.loop-at.numbers c.loop-at.at
+    c.loop-at.n c.in-Ok.v c.in-Ok.count.0
+passed c = one_poured c.loop-at.invariant c.loop-at-test.true (rw c.in-Ok.is at c.read_u64.ensures.is)
 
 pub offset_bounds-numbers-n : goal.offset_bounds-numbers-n
 offset_bounds-numbers-n c = let p = passed c in search rules
@@ -29,8 +29,8 @@ loop-at-smaller c = omega (arith, (passed c).some, (passed c).within)
 pub loop-at-preserved : goal.loop-at-preserved
 loop-at-preserved c = (passed c).poured
 
-pub returns-in-Refused : goal.returns-in-Refused
-returns-in-Refused c = not_refused c.loop-at.invariant c.loop-at-test.true (rw c.in-Refused.is at c.read_u64.ensures.is)
+pub returns-in-Err : goal.returns-in-Err
+returns-in-Err c = not_refused c.loop-at.invariant c.loop-at-test.true (rw c.in-Err.is at c.read_u64.ensures.is)
 
 pub returns : goal.returns
 returns c = all_poured c.loop-at.invariant c.loop-at-test.false

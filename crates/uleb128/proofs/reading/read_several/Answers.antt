@@ -1,0 +1,66 @@
+-- `uleb128::read_several` keeps what it promises inside the crate: at each answer, what the walk tells and the tests on the way
+-- are a law of `Widths`.
+use Rattle.std.proofs.Common.{arith, rules}
+use Rattle.groups.proofs.FromWalk.{walk_tells, open_inside, overrun_inside, closed_inside, closed_several}
+use Rattle.uleb128.proofs.Widths.{says_past, says_end, says_overrun, large_there, says_large, not_large, says_many, says_number, number_fits}
+use Rattle.uleb128.proofs.reading.read_several.Goals as goal
+
+pub returns-in-Past : goal.returns-in-Past
+returns-in-Past c = says_past _ _ (search rules) _ _ (walk_tells _ _ c.walk.ensures c.in-Past.is)
+
+-- the bytes end within the walk
+pub returns-then-high-most : goal.returns-then-high-most
+returns-then-high-most c = says_end _ _ (search rules) _ _ (walk_tells _ _ c.walk.ensures c.in-Open.is) c.if-high-most.true
+
+pub overflow-requires : goal.overflow-requires
+overflow-requires c = omega (arith, open_inside (walk_tells _ _ c.walk.ensures c.in-Open.is), c.requires.0.some)
+
+pub returns-else-high-most : goal.returns-else-high-most
+returns-else-high-most c =
+    let q = walk_tells _ _ c.walk.ensures c.in-Open.is in rw c.overflow.ensures (says_overrun _ _ (search rules) _ _ q.here (omega (arith, q.many)))
+
+-- no byte below 128 came within ten
+pub overflow-requires-in-Long : goal.overflow-requires-in-Long
+overflow-requires-in-Long c = omega (arith, overrun_inside (walk_tells _ _ c.walk.ensures c.in-Long.is), c.requires.0)
+
+pub returns-in-Long : goal.returns-in-Long
+returns-in-Long c =
+    let q = walk_tells _ _ c.walk.ensures c.in-Long.is in
+    rw c.overflow-in-Long.ensures (says_overrun _ _ (search rules) _ _ q.here (omega (arith, q.many)))
+
+-- the walk came to a byte below 128
+pub overflow_add-n : goal.overflow_add-n
+overflow_add-n c = omega (arith, (walk_tells _ _ c.walk.ensures c.in-Closed.is).few)
+
+pub overflow-requires-then-large : goal.overflow-requires-then-large
+overflow-requires-then-large c =
+    let q = walk_tells _ _ c.walk.ensures c.in-Closed.is in
+    let wide = c.requires.0 in
+    omega (arith, closed_inside q, wide.some, large_there _ _ wide _ _ q c.too_large-large.ensures c.if-large.true)
+
+pub returns-then-large : goal.returns-then-large
+returns-then-large c =
+    let q = walk_tells _ _ c.walk.ensures c.in-Closed.is in
+    rw c.overflow-then-large.ensures (says_large _ _ (search rules) _ _ q c.too_large-large.ensures c.if-large.true)
+
+-- it isn't too large
+pub overflow_add-ends : goal.overflow_add-ends
+overflow_add-ends c = omega (arith, closed_inside (walk_tells _ _ c.walk.ensures c.in-Closed.is))
+
+pub returns-then-last-lt1 : goal.returns-then-last-lt1
+returns-then-last-lt1 c =
+    let q = walk_tells _ _ c.walk.ensures c.in-Closed.is in
+    let within = not_large _ _ c.requires.0 _ _ q c.too_large-large.ensures c.if-large.false in
+    says_many _ _ (search rules) _ _ q within.0 (closed_several q c.requires.1) c.if-last-lt1.true
+
+pub number-requires : goal.number-requires
+number-requires c =
+    let q = walk_tells _ _ c.walk.ensures c.in-Closed.is in
+    let within = not_large _ _ c.requires.0 _ _ q c.too_large-large.ensures c.if-large.false in
+    (number_fits _ _ c.requires.0 _ _ q within.0 within.1, q.few)
+
+pub returns-else-last-lt1 : goal.returns-else-last-lt1
+returns-else-last-lt1 c =
+    let q = walk_tells _ _ c.walk.ensures c.in-Closed.is in
+    let within = not_large _ _ c.requires.0 _ _ q c.too_large-large.ensures c.if-large.false in
+    rw c.number.ensures (says_number _ _ (search rules) _ _ q within.0 within.1 (λ h. omega arith))
