@@ -5,7 +5,8 @@
 --   number_heard               where the next field's number is read, it is one of them
 --   fault_heard                where its reading is refused, the bytes say nothing
 --   all_heard                  behind the last field, they say the numbers read
---   case_read                  what is read is what an answer's case says
+--   some_read, none_read       a reading of which `ok` makes a value gave it, one of which it makes none was refused;
+--   read_some, read_none       and so what it answers
 use Prim.Native.Nat.{ℕ, ◌+◌, ◌≤◌}
 use mathlib.Core.Path.{◌≡◌, refl, ap, sym, ◌∙◌}
 use mathlib.Core.List.{List, [], ◌∷◌, ◌++◌, append-nil, append_assoc}
@@ -13,7 +14,10 @@ use mathlib.Core.Bool.{false}
 use native.Mathlib.Omega.{arith}
 use lib.ListN.{length, drop}
 use lib.Seq.{drop-append_seam, drop-drop}
-use Rattle.words.specs.Answer.{Answer, gives, refused, Why}
+use Rattle.std.specs.Prelude.{Option, Some, None, Ok, Err}
+use Rattle.std.specs.Result.{result_ok}
+use Rattle.words.specs.Answer.{Answer, gives, refused, Why, because_of, Reading, means_read}
+use Rattle.words.specs.declared.Count.{Count}
 use Rattle.words.proofs.OneMeaning.{apart}
 use Rattle.groups.specs.Group.{Bytes, Group}
 use Rattle.groups.specs.Width.{Width, is_too_large, is_too_many, reading, read}
@@ -35,6 +39,14 @@ reading_group w {g} r large many e f = sym (reading_front w [] r) ∙ reading_be
 valued_given : {A : Type 0} (tell : A → Val) (a : Answer (A × ℕ)) {v : Val} → valued tell a ≡ gives v → (x : A × ℕ) × (a ≡ gives x)
 valued_given tell (gives x) e = (x, refl)
 valued_given tell (refused k) e = apart (sym e)
+
+pub some_read : {A : Type 0} (r : Reading A) {v : A} {n : Count} → result_ok r ≡ Some (v, n) → means_read r ≡ gives (v, n.0)
+some_read {A} (Ok (w, m)) {v} {n} e = let q : ◌≡◌ {A = A × Count} (w, m) (v, n) = cc in ap (λ (x : A × Count). gives (x.0, x.1.0)) q
+some_read {A} (Err f) {v} {n} e = let q : ◌≡◌ {A = Option (A × Count)} None (Some (v, n)) = e in cc
+
+pub none_read : {A : Type 0} (r : Reading A) → result_ok r ≡ None → (why : Why) × (means_read r ≡ refused why)
+none_read {A} (Ok x) e = let q : ◌≡◌ {A = Option (A × Count)} (Some x) None = e in cc
+none_read (Err f) e = (because_of f, refl)
 
 pub record Heard (all : List Field) (s : List ℕ) (at : ℕ) (left : List Field) (done : List Val) : Type 0 where
   pub within : at ≤ length s
@@ -79,5 +91,11 @@ module _ {all : List Field} {s : List ℕ} (bytes : Bytes s) {at : ℕ} {left : 
 pub all_heard : {all : List Field} {s : List ℕ} {at : ℕ} {done : List Val} → Heard all s at [] done → Says all s done (drop at s)
 all_heard {s = s} {at = at} {done = done} k = rw (append-nil done) at (k.onward [] (drop at s) nothing)
 
-pub case_read : {A R : Type 0} (means : R → Answer A) {a : Answer A} {r q : R} → means r ≡ a → r ≡ q → a ≡ means q
-case_read means p e = sym p ∙ ap means e
+-- what a reading gave, from what `ok` makes of it
+pub read_some : {A : Type 0} {a : Answer (A × ℕ)} (r : Reading A) {o : Option (A × Count)} {v : A} {n : Count} → means_read r ≡ a → o ≡ result_ok r → o ≡ Some (v, n)
+    → a ≡ gives (v, n.0)
+read_some r meant made e = sym meant ∙ some_read r (sym made ∙ e)
+
+pub read_none : {A : Type 0} {a : Answer (A × ℕ)} (r : Reading A) {o : Option (A × Count)} → means_read r ≡ a → o ≡ result_ok r → o ≡ None
+    → (why : Why) × (a ≡ refused why)
+read_none r meant made e = let x = none_read r (sym made ∙ e) in (x.0, sym meant ∙ x.1)

@@ -19,10 +19,9 @@ pub struct Entry {
     pub turn: i64,
 }
 
-// What reading an entry answers: a good one, or 10 for a bad one, each with the place where it ends; or 7, 4, or 8 if there is none.
+// The entry that was found: a good one, or 10 for a bad one, each with the place where it ends.
 #[derive(Clone, Copy)]
 pub enum ReadEntry {
     Good(Entry, Place),
     Bad(Refusal, Place),
-    Refused(Refusal),
 }

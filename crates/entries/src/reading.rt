@@ -3,7 +3,7 @@ ghost use Rattle.entries.specs.Promise.{ReadsEntry};
 
 use crate::ReadEntry;
 use crate::marks::{ends, next_mark};
-use crate::saying::{Said, hear};
+use crate::saying::hear;
 use blocks::BLOCK_LIMIT;
 use words::{Place, Refusal};
 
@@ -26,15 +26,11 @@ pub fn read_entry(block: &[u8], place: Place) -> Result<ReadEntry, Refusal>
         return Err(Refusal::NoStart);
     }
     let first = at + 2;
-    match hear(&block[first..]) {
-        Some((entry, count)) => {
-            let end = first + count;
-            let whole = ends(block, end);
-            if whole {
-                return Ok(ReadEntry::Good(entry, Place(end)));
-            }
+    if let Some((entry, count)) = hear(&block[first..]) {
+        let end = first + count;
+        if ends(block, end) {
+            return Ok(ReadEntry::Good(entry, Place(end)));
         }
-        None => {}
     }
     let end = next_mark(block, first);
     Ok(ReadEntry::Bad(Refusal::Entry, Place(end)))

@@ -44,13 +44,8 @@ fn put(number: Value, buffer: &mut [u8], at: usize) -> usize
     requires { at + length (form_of (means_value number)) ≤ length buffer.old }
     ensures { Puts (form_of (means_value number)) buffer.old at result buffer.new }
 {
-    match store(number, buffer, Place(at)) {
-        Ok(count) => {
-            let n = count.0;
-            at + n
-        }
-        Err(_) => at,
-    }
+    let Count(n) = store(number, buffer, Place(at)).unwrap();
+    at + n
 }
 
 // Most numbers take one byte, and that is tested first.

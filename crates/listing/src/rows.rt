@@ -11,7 +11,7 @@ ghost use Rattle.listing.specs.Promise.{LaysListing};
 use crate::TEXT_ROOM;
 use blocks::{BLOCK_LIMIT, Cursor, Rule, Step};
 use groups::Value;
-use words::{Count, Place, Refusal};
+use words::{Count, Fault, Place, Refusal};
 
 // What stands at a place: a group that is a number, one with a fault, or the tail.
 #[derive(Clone, Copy)]
@@ -20,13 +20,6 @@ enum What {
     NotShortest,
     Overflow,
     Tail,
-}
-
-// A line: what stands there, its value, and how many bytes of the block it is of. Or the block is finished.
-#[derive(Clone, Copy)]
-enum Row {
-    Line(What, u64, Count),
-    Finished,
 }
 
 // The word for a group's fault, which is 2 or 3.
@@ -39,27 +32,18 @@ fn fault_of(refusal: Refusal) -> What
     }
 }
 
-// The line of what stands at the place. From a start no step by the unsigned rule says a signed number, or refuses.
+// The line of what stands at the place: what it is, its value, and how many bytes of the block it is of. None if the block is finished. From a
+// start no step by the unsigned rule says a signed number, or refuses.
 fn row_at(block: &[u8], at: usize) -> Option<(What, u64, Count)>
     ensures { SaysRow block.now at result }
 {
     let cursor = Cursor { place: Place(at) };
-    match cursor.step(block, Rule::Unsigned) {
-        Ok(Step::Number(value, count, _)) => match value {
-            Value::Unsigned(v) => Some((What::Number, v, count)),
-            Value::Signed(_) => None,
-        },
-        Ok(Step::Gap(Fault(refusal, _), count, _)) => {
-            let length = count.0;
-            let what = fault_of(refusal);
-            Some((what, length as u64, count))
-        }
-        Ok(Step::Tail(count, _)) => {
-            let length = count.0;
-            Some((What::Tail, length as u64, count))
-        }
-        Ok(Step::Finished(_)) => None,
-        Err(_) => None,
+    match cursor.step(block, Rule::Unsigned).ok()? {
+        Step::Number(Value::Unsigned(v), count, _) => Some((What::Number, v, count)),
+        Step::Gap(Fault(refusal, _), count, _) => Some((fault_of(refusal), count.0 as u64, count)),
+        Step::Tail(count, _) => Some((What::Tail, count.0 as u64, count)),
+        Step::Number(Value::Signed(_), _, _) => None,
+        Step::Finished(_) => None,
     }
 }
 
@@ -92,18 +76,11 @@ fn lay_rows(block: &[u8], text: &mut [u8], filled: Count) -> Count
 {
     let mut at: usize = 0;
     let mut so_far = filled;
-    loop {
-        match row_at(block, at) {
-            Some((what, value, count)) => {
-                let n = count.0;
-                so_far = lay_row(at, what, value, text, so_far);
-                at += n;
-            }
-            None => {
-                return so_far;
-            }
-        }
+    while let Some((what, value, count)) = row_at(block, at) {
+        so_far = lay_row(at, what, value, text, so_far);
+        at += count.0;
     }
+    so_far
 }
 
 // Puts the listing of the block to the front of the buffer, and answers how many bytes it has. Above the limit it is the one line

@@ -4,13 +4,4 @@
 
 mod reading;
 
-use lists::Numbers;
 pub use reading::read_phrase;
-use words::Refusal;
-
-// What reading a phrase answers: how many sentences it put to the front of the slice, or why none.
-#[derive(Clone, Copy)]
-pub enum ReadPhrase {
-    Filled(Numbers),
-    Refused(Refusal),
-}

@@ -7,7 +7,6 @@ ghost use Rattle.std.specs.Prelude.{◌≤◌, ◌≡◌, length};
 ghost use Rattle.phrases.specs.Inner.{OneAhead, SomeAhead, Passes, halves, Fits, Fills};
 ghost use Rattle.phrases.specs.Promise.{ReadsPhrase};
 
-use crate::ReadPhrase;
 use lists::{LIST_LIMIT, Numbers};
 use words::Refusal;
 

@@ -9,7 +9,6 @@ mod writing;
 ghost use Rattle.slips.specs.Promise.{LiesInRange};
 
 pub use reading::read_setting;
-use words::{Count, Refusal};
 pub use writing::write_setting;
 
 // A lowest and a highest torque.
@@ -26,13 +25,6 @@ pub enum Setting {
     Torque(f32),
     Angle(f32),
     Range(Range),
-}
-
-// What the reader answers: the setting and its slip's count of bytes, or why there is none.
-#[derive(Clone, Copy)]
-pub enum ReadSetting {
-    Setting(Setting, Count),
-    Refused(Refusal),
 }
 
 // Whether the torque is neither under the lowest nor over the highest. A not-a-number among the three gets no; the range needn't be good.

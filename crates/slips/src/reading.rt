@@ -6,7 +6,7 @@ ghost use Rattle.slips.specs.Inner.{Judges};
 ghost use Rattle.slips.specs.Promise.{ReadsSetting};
 
 use crate::good::{good_angle, good_range, good_torque};
-use crate::{Range, ReadSetting, Setting};
+use crate::{Range, Setting};
 use words::{Count, Place, Refusal};
 
 // Two bytes as one number, lowest first. By `|` and `<<`: LLVM then loads the four bytes of a word at once, or by halves.

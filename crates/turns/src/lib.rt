@@ -19,13 +19,6 @@ pub enum Turn {
     Hold,
 }
 
-// What a turn means under a thread code, or why that is refused.
-#[derive(Clone, Copy)]
-pub enum Meaning {
-    Turn(Turn),
-    Refused(Refusal),
-}
-
 // What a turn means under the thread code, if it means right on a right-hand thread and left on a left-hand one.
 fn under(thread: u8, right: Turn, left: Turn) -> Result<Turn, Refusal>
     ensures { means_meaning result ≡ by_thread thread right left }

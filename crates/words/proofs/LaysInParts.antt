@@ -7,7 +7,7 @@
 --   rest_fits                     there is room for what is left
 --   puts_lays                     what is stored where there is room is laid down, with its count of bytes
 --   lays_puts                     and what a writer lays down there is stored, up to the place behind it;
---   no_refusal                    it does not refuse there
+--   lays_ok                       it does not refuse there
 use Prim.Native.Nat.{ℕ, ◌+◌, ◌≤◌}
 use mathlib.Core.Path.{◌≡◌, refl, ap, sym, ◌∙◌}
 use mathlib.Core.List.{List, [], ◌++◌}
@@ -18,11 +18,9 @@ use Rattle.words.specs.Inner.{Puts}
 use Rattle.words.specs.Lays.{Lays}
 use Rattle.words.specs.Answer.{means_written, Written}
 use Rattle.words.specs.declared.Count.{Count}
-use Rattle.words.specs.declared.Refusal.{Refusal}
 use Rattle.words.proofs.Lays.{fits_there, sets_append}
 use Rattle.words.proofs.LaysExactly.{laid_fits, count_fits}
-use Rattle.words.proofs.OneMeaning.{apart}
-use Rattle.std.specs.Prelude.{Ok, Err}
+use Rattle.std.specs.Prelude.{Ok, IsOk}
 
 pub record Laying (all s : List ℕ) (at : ℕ) (out : List ℕ) (to : ℕ) (rest : List ℕ) : Type 0 where
   pub kept : length out ≡ length s
@@ -61,5 +59,5 @@ module _ {bytes s : List ℕ} {at : ℕ} {r : Written} {out : List ℕ} (room : 
     leaves = (laid_fits bytes s at r out w room).1 ∙ sym (sets-eq bytes s at room);
   }
 
-  pub no_refusal : {X : Type 0} {why : Refusal} → r ≡ Err why → X
-  no_refusal e = apart (ap means_written (sym (laid_fits bytes s at r out w room).0 ∙ e))
+  pub lays_ok : IsOk r
+  lays_ok = rw (laid_fits bytes s at r out w room).0

@@ -16,13 +16,13 @@ module _ {s : List ℕ} {p : ℕ} (short : length s ≤ block_limit) (here : Her
   none_left said = no_row (rowing s p short here) said.is
 
 pub overflow_add-at : goal.overflow_add-at
-overflow_add-at c = omega (arith, (stands c.requires c.loop-what.invariant.here c.in-Line.ensures).within)
+overflow_add-at c = omega (arith, (stands c.requires c.loop-what.invariant.here c.in-Some.ensures).within)
 
 pub loop-what-smaller : goal.loop-what-smaller
-loop-what-smaller c = let b = stands c.requires c.loop-what.invariant.here c.in-Line.ensures in omega (arith, b.within, b.some)
+loop-what-smaller c = let b = stands c.requires c.loop-what.invariant.here c.in-Some.ensures in omega (arith, b.within, b.some)
 
 pub loop-what-preserved : goal.loop-what-preserved
-loop-what-preserved c = row_more c.loop-what.invariant (stands c.requires c.loop-what.invariant.here c.in-Line.ensures) c.lay_row-so_far.ensures
+loop-what-preserved c = row_more c.loop-what.invariant (stands c.requires c.loop-what.invariant.here c.in-Some.ensures) c.lay_row-so_far.ensures
 
-pub returns-in-Finished : goal.returns-in-Finished
-returns-in-Finished c = rows_ended c.loop-what.invariant (none_left c.requires c.loop-what.invariant.here c.in-Finished.ensures)
+pub returns : goal.returns
+returns c = rows_ended c.loop-what.invariant (none_left c.requires c.loop-what.invariant.here c.in_default.ensures)
