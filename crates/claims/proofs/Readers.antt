@@ -3,7 +3,8 @@
 --   Reading w form OfWidth         the width w is sound, and its readings are the forms of its numbers
 --   within_of_mag, mag_of_within   an integer lies from -h to below h exactly where its `mag` is below h
 --   reading_of                     each kind has such a width, such forms and such numbers
---   number_says, refusal_says      a reader promises a number, or a refusal, exactly where the reading is that
+--   reads_says, says_reading       a reader promises that its answer says the reading,
+--   number_says, refusal_says      so it promises a number, or a refusal, exactly where the reading is that
 --   reply_cases                    an answer that a reader promises is a number or a refusal, and the reading is the same
 --   number_read, refusal_read      from the number or the refusal that was answered to the reading,
 --   read_number, read_refusal      and back
@@ -21,14 +22,14 @@ use native.Mathlib.Omega.{arith}
 use lib.Dec.{leb→le, le→leb, lt→ltb, ltb→lt}
 use lib.IntN.{ℤ, pos, negsuc, neg_ℤ}
 use lib.Signed.{mag, ◌≤ℤ◌, ◌<ℤ◌}
-use Rattle.words.specs.Answer.{Answer, gives, refused, because_at}
+use Rattle.words.specs.Answer.{Answer, gives, refused, because_at, means_read}
 use Rattle.words.specs.declared.Count.{Count}
 use Rattle.words.specs.declared.Place.{Place}
 use Rattle.words.specs.declared.Refusal.{Refusal}
 use Rattle.words.proofs.OneMeaning.{apart, decided_same, given_value, given_count, same_both}
 use Rattle.groups.specs.Begins.{Begins}
 use Rattle.groups.specs.Group.{Bytes}
-use Rattle.groups.specs.Width.{Width, read, Due}
+use Rattle.groups.specs.Width.{Width, read, Reads}
 use Rattle.groups.proofs.Rows.{due_kept}
 use Rattle.groups.proofs.FromWalk.{Sound}
 use Rattle.groups.proofs.Stands.{Stands, stands_read}
@@ -84,34 +85,28 @@ reading_of recursive64 = unsigned_reading 10 1 (omega arith) (omega arith)
 reading_of unsigned32 = unsigned_reading 5 15 (omega arith) (omega arith)
 reading_of signed64 = signed_reading
 
--- what the promise of a number and of a refusal says of the reading
-due_is : {A : Type 0} {b a : Answer A} → Due b a ↔ (b ≡ a)
-due_is = (λ p. sym p.is, due_kept)
+-- what a reader promises is that its answer says the reading
+reads_says : (k : Kind) (s : List ℕ) (at : ℕ) (r : Reply k) → ReadsAs k s at r ↔ Reads (width k) s at (means_read r)
+reads_says loop64 s at r = (λ p. p, λ p. p)
+reads_says recursive64 s at r = (λ p. p, λ p. p)
+reads_says unsigned32 s at r = (λ p. p, λ p. p)
+reads_says signed64 s at r = (λ p. p, λ p. p)
+
+says_reading : (k : Kind) (s : List ℕ) (at : ℕ) (r : Reply k) → ReadsAs k s at r ↔ (read (width k) s at ≡ means_read r)
+says_reading k s at r = (λ p. sym ((reads_says k s at r).0 p).is, λ e. (reads_says k s at r).1 (due_kept e))
 
 pub number_says : (k : Kind) (s : List ℕ) (at : ℕ) (v : Value k) (n : Count) → ReadsAs k s at (number k v n) ↔ (read (width k) s at ≡ gives (v, n.0))
-number_says loop64 s at v n = due_is
-number_says recursive64 s at v n = due_is
-number_says unsigned32 s at v n = due_is
-number_says signed64 s at v n = due_is
+number_says k s at v n = says_reading k s at (number k v n)
 
 pub refusal_says : (k : Kind) (s : List ℕ) (at : ℕ) (why : Refusal) (p : Place) → ReadsAs k s at (refuse k why p) ↔ (read (width k) s at ≡ refused (because_at why p.0))
-refusal_says loop64 s at why p = due_is
-refusal_says recursive64 s at why p = due_is
-refusal_says unsigned32 s at why p = due_is
-refusal_says signed64 s at why p = due_is
+refusal_says k s at why p = says_reading k s at (refuse k why p)
 
 -- an answer that a reader promises is one of its numbers or of its refusals, and what is read says the same
 reply_cases : {X : Type 0} (k : Kind) (s : List ℕ) (at : ℕ) (r : Reply k) → ReadsAs k s at r
     → ((v : Value k) (n : Count) → r ≡ number k v n → read (width k) s at ≡ gives (v, n.0) → X)
     → ((why : Refusal) (p : Place) → r ≡ refuse k why p → read (width k) s at ≡ refused (because_at why p.0) → X) → X
-reply_cases loop64 s at (Ok (v, n)) p value fault = value v n refl (sym p.is)
-reply_cases loop64 s at (Err (record { 0 = why; 1 = q })) p value fault = fault why q refl (sym p.is)
-reply_cases recursive64 s at (Ok (v, n)) p value fault = value v n refl (sym p.is)
-reply_cases recursive64 s at (Err (record { 0 = why; 1 = q })) p value fault = fault why q refl (sym p.is)
-reply_cases unsigned32 s at (Ok (v, n)) p value fault = value v n refl (sym p.is)
-reply_cases unsigned32 s at (Err (record { 0 = why; 1 = q })) p value fault = fault why q refl (sym p.is)
-reply_cases signed64 s at (Ok (v, n)) p value fault = value v n refl (sym p.is)
-reply_cases signed64 s at (Err (record { 0 = why; 1 = q })) p value fault = fault why q refl (sym p.is)
+reply_cases k s at (Ok (v, n)) p value fault = value v n refl ((number_says k s at v n).0 p)
+reply_cases k s at (Err f) p value fault = fault f.0 f.1 refl ((refusal_says k s at f.0 f.1).0 p)
 
 -- an answer and what it says
 module _ (k : Kind) (s : List ℕ) (at : ℕ) where

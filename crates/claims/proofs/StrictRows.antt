@@ -39,7 +39,7 @@ module _ (s old : List ℕ) where
 
   pub strict_row_kept : (x : Result Numbers NotRead × List ℕ) → StrictRow s old x.0 x.1 → ReadsStrict s old x.0 x.1
   strict_row_kept (Err (L.Refused why), out) h = rw h.1 (refused_row why h.0)
-  strict_row_kept (Err (L.Faulty (record { 0 = why; 1 = p })), out) h = rw h.2 (block_faulty s old h.0 (rw (first_fault s p.0 why h.1)))
+  strict_row_kept (Err (L.Faulty fault), out) h = rw h.2 (block_faulty s old h.0 (rw (first_fault s fault.1.0 fault.0 h.1)))
   strict_row_kept (Ok n, out) h =
       let ns = h.1 in
       let q = strict_fills s ns old h.0 (ap (numbers 0) h.2.0 ∙ numbers_forms 0 ns h.2.1) h.3 in

@@ -9,6 +9,7 @@
 --   width, form   its row of document 01's table, and the shortest form of a number
 --   OfWidth       the numbers of the width
 use Rattle.std.specs.Prelude.{ℕ, ◌^◌, ◌<◌, List, ℤ, pos, neg_ℤ, ◌≤ℤ◌, ◌<ℤ◌, Ok, Err}
+use Rattle.words.specs.Answer.{Reading, Written}
 use Rattle.words.specs.declared.Count.{Count}
 use Rattle.words.specs.declared.Place.{Place}
 use Rattle.words.specs.declared.Refusal.{Refusal}
@@ -18,8 +19,6 @@ use Rattle.uleb128.specs.Promise.{ReadsU64, ReadsU32, WritesU64, WritesU32, Leng
 use Rattle.uleb128_rec.specs.Promise.{ReadsU64Rec, WritesU64Rec}
 use Rattle.sleb128.specs.Signed as signed
 use Rattle.sleb128.specs.Promise.{ReadsI64, WritesI64, LengthI64}
-use Rattle.words.specs.Answer.{Reading}
-use Rattle.words.specs.Answer.{Written}
 
 pub data Kind : Type 0 where
   loop64 recursive64 unsigned32 signed64 : Kind
@@ -31,22 +30,13 @@ Value unsigned32 = ℕ
 Value signed64 = ℤ
 
 abbrev pub Reply : Kind → Type 0
-Reply loop64 = Reading ℕ
-Reply recursive64 = Reading ℕ
-Reply unsigned32 = Reading ℕ
-Reply signed64 = Reading ℤ
+Reply k = Reading (Value k)
 
 abbrev pub number : (k : Kind) → Value k → Count → Reply k
-number loop64 v n = Ok (v, n)
-number recursive64 v n = Ok (v, n)
-number unsigned32 v n = Ok (v, n)
-number signed64 v n = Ok (v, n)
+number k v n = Ok (v, n)
 
 abbrev pub refuse : (k : Kind) → Refusal → Place → Reply k
-refuse loop64 why p = Err (record { 0 = why; 1 = p })
-refuse recursive64 why p = Err (record { 0 = why; 1 = p })
-refuse unsigned32 why p = Err (record { 0 = why; 1 = p })
-refuse signed64 why p = Err (record { 0 = why; 1 = p })
+refuse k why p = Err (record { 0 = why; 1 = p })
 
 abbrev pub ReadsAs : (k : Kind) → List ℕ → ℕ → Reply k → Type 0
 ReadsAs loop64 s at r = ReadsU64 s at r

@@ -20,7 +20,7 @@
 --   EntriesFront, EntriesBack   what a reader gives of the whole block: the entries in each of the two parts are the same list
 --   EntriesMet, EntriesOne      an answer meets each promise, and no second
 --   OfEntries                   all of it
-use Rattle.std.specs.Prelude.{ℕ, ◌+◌, ◌≤◌, ◌<◌, ◌≡◌, List, [], ◌∷◌, ◌++◌, ◌↔◌, pos, neg_ℤ, length, take, drop, Ok, Err}
+use Rattle.std.specs.Prelude.{ℕ, ◌+◌, ◌≤◌, ◌<◌, ◌≡◌, List, [], ◌∷◌, ◌++◌, ◌↔◌, pos, neg_ℤ, length, take, drop, Ok, Err, Result}
 use Rattle.words.specs.Answer.{refused, because_at, Written}
 use Rattle.words.specs.Lays.{LaysExactly}
 use Rattle.words.specs.declared.Count.{Count}

@@ -47,7 +47,7 @@ pub data StrictRefused (s : List ℕ) (room : ℕ) : Refusal → Type 0 where
 abbrev pub StrictRow : List ℕ → List ℕ → Result Numbers NotRead → List ℕ → Type 0
 StrictRow s old (Ok n) out =
     (length s ≤ block_limit) × (ns : List ℕ) × IsForms s ns × (length ns ≤ length old) × (n.0 ≡ length ns) × (out ≡ ns ++ drop (length ns) old)
-StrictRow s old (Err (L.Faulty (record { 0 = why; 1 = p }))) out = (length s ≤ block_limit) × FirstFault s p.0 why × (out ≡ old)
+StrictRow s old (Err (L.Faulty fault)) out = (length s ≤ block_limit) × FirstFault s fault.1.0 fault.0 × (out ≡ old)
 StrictRow s old (Err (L.Refused why)) out = StrictRefused s (length old) why × (out ≡ old)
 
 -- A list of more numbers than the limit is refused by 7; any other is written as one number is, its forms one after another.

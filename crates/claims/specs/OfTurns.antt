@@ -6,7 +6,7 @@
 --   LeftThread           under a left thread it means that with the two names changed places
 --   TurnsMet, TurnsOne   an answer meets the promise, and no second
 --   OfTurns              all of it
-use Rattle.std.specs.Prelude.{ℕ, ◌≤◌, ◌<◌, ◌≡◌, ◌↔◌, ℤ, pos, ◌<ℤ◌, Ok, Err}
+use Rattle.std.specs.Prelude.{ℕ, ◌≤◌, ◌<◌, ◌≡◌, ◌↔◌, ℤ, pos, ◌<ℤ◌, Ok, Err, Result}
 use Rattle.words.specs.declared.Refusal.TheVariants.{Thread}
 use Rattle.turns.specs.Turns.{Means, swapped}
 use Rattle.turns.specs.declared.Turn.{Turn}

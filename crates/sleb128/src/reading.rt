@@ -66,7 +66,14 @@ fn too_large(high: usize, bits: u64) -> bool
 
 // The number of a group whose high bytes say low and whose last byte says bits: below zero, both are complements. Where it is
 // refused, that byte decides it.
-fn closed(low: u64, weight: u64, high: usize, bits: u64, below: bool, place: Place) -> Result<(i64, Count), Fault>
+fn closed(
+    low: u64,
+    weight: u64,
+    high: usize,
+    bits: u64,
+    below: bool,
+    place: Place,
+) -> Result<(i64, Count), Fault>
     requires { Closes low weight high bits }
     ensures { Due (closing below low weight high bits place.0) (means_read result) }
 {

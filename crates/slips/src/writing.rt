@@ -88,7 +88,13 @@ fn lay_two(kind: u8, low: u32, high: u32, buffer: &mut [u8], place: Place) -> Re
 }
 
 // Writes a setting of one word, if it is good; else 11.
-fn write_word(kind: u8, bits: u32, good: bool, buffer: &mut [u8], place: Place) -> Result<Count, Refusal>
+fn write_word(
+    kind: u8,
+    bits: u32,
+    good: bool,
+    buffer: &mut [u8],
+    place: Place,
+) -> Result<Count, Refusal>
     ensures { WritesWord kind bits good buffer.old place.0 result buffer.new }
 {
     if good {
