@@ -58,10 +58,7 @@ fn said(v: u64, up: u64, below: bool) -> u64
 fn too_large(high: usize, bits: u64) -> bool
     ensures { result ≡ both (ltb 8 high) (ltb 0 bits) }
 {
-    if high < 9 {
-        return false;
-    }
-    0 < bits
+    8 < high && 0 < bits
 }
 
 // The number of a group whose high bytes say low and whose last byte says bits: below zero, both are complements. Where it is
@@ -77,18 +74,15 @@ fn closed(
     requires { Closes low weight high bits }
     ensures { Due (closing below low weight high bits place.0) (means_read result) }
 {
-    let large = too_large(high, bits);
-    if large {
+    if too_large(high, bits) {
         return Err(Fault(Refusal::Overflow, place));
     }
-    let part = weight * bits;
-    let m = low + part;
+    let m = low + weight * bits;
     let twice = m * 2;
     if twice < weight {
         return Err(Fault(Refusal::NotShortest, place));
     }
-    let n = high + 1;
-    Ok((signed(m, below), Count(n)))
+    Ok((signed(m, below), Count(high + 1)))
 }
 
 // The number whose shortest form stands at the start, with its count of bytes; else 4, 1, 2 or 3, each with the place of the byte
@@ -97,18 +91,13 @@ pub fn read_i64(bytes: &[u8], start: Place) -> Result<(i64, Count), Fault>
     ensures { ReadsI64 bytes.now start.0 result }
 {
     let at = start.0;
-    let small = one_byte(bytes, at);
-    if small {
-        let b = bytes[at];
-        return Ok((alone(b), Count(1)));
+    if one_byte(bytes, at) {
+        return Ok((alone(bytes[at]), Count(1)));
     }
     match walk(bytes, start) {
         Walked::Past => Err(Fault(Refusal::Place, start)),
         Walked::Open(_) => Err(Fault(Refusal::End, Place(bytes.len()))),
-        Walked::Long => {
-            let tenth = at + 9;
-            Err(Fault(Refusal::Overflow, Place(tenth)))
-        }
+        Walked::Long => Err(Fault(Refusal::Overflow, Place(at + 9))),
         Walked::Closed {
             sum,
             weight,

@@ -10,9 +10,9 @@ use Rattle.sleb128.proofs.Widths.{sound}
 use Rattle.sleb128.proofs.SignedGroups.{closed_closes, closed_reads}
 use Rattle.sleb128.proofs.reading.read_i64.Goals as goal
 
-pub returns-then-small : goal.returns-then-small
-returns-then-small c =
-    let b = one_there c.one_byte-small.ensures c.if-small.true in
+pub returns-then-one_byte : goal.returns-then-one_byte
+returns-then-one_byte c =
+    let b = one_there c.one_byte.ensures c.if-one_byte.true in
     rw (word_back c.alone.result (search rules), c.alone.ensures) (due_kept (read_one i64 (omega arith) _ _ b.0 b.1))
 
 pub returns-in-Past : goal.returns-in-Past
@@ -21,8 +21,8 @@ returns-in-Past c = due_kept (read_past i64 _ _ (walk_tells _ _ c.walk.ensures c
 pub returns-in-Open : goal.returns-in-Open
 returns-in-Open c = let q = walk_tells _ _ c.walk.ensures c.in-Open.is in due_kept (open_end i64 sound _ _ q q.few)
 
-pub overflow_add-tenth : goal.overflow_add-tenth
-overflow_add-tenth c = omega (arith, overrun_inside (walk_tells _ _ c.walk.ensures c.in-Long.is))
+pub overflow_add-result : goal.overflow_add-result
+overflow_add-result c = omega (arith, overrun_inside (walk_tells _ _ c.walk.ensures c.in-Long.is))
 
 pub returns-in-Long : goal.returns-in-Long
 returns-in-Long c = let q = walk_tells _ _ c.walk.ensures c.in-Long.is in due_kept (overrun_large i64 sound _ _ q.here q.many)
@@ -43,11 +43,11 @@ said-bits-requires c = omega (arith, (walk_tells _ _ c.walk.ensures c.in-Closed.
 pub closed-requires : goal.closed-requires
 closed-requires c =
     let q = walk_tells _ _ c.walk.ensures c.in-Closed.is in
-    let more = closed_several q (one_not_there c.one_byte-small.ensures c.if-small.false) in
+    let more = closed_several q (one_not_there c.one_byte.ensures c.if-one_byte.false) in
     rw (c.said-low.ensures, c.said-bits.ensures) (closed_closes q more)
 
 pub returns-in-Closed : goal.returns-in-Closed
 returns-in-Closed c =
     let q = walk_tells _ _ c.walk.ensures c.in-Closed.is in
-    let more = closed_several q (one_not_there c.one_byte-small.ensures c.if-small.false) in
+    let more = closed_several q (one_not_there c.one_byte.ensures c.if-one_byte.false) in
     due_passed (closed_reads q more) (rw (c.said-low.ensures, c.said-bits.ensures) at c.closed.ensures)

@@ -4,6 +4,6 @@ use Rattle.groups.proofs.OneByte.{one_there}
 use Rattle.uleb128.proofs.Widths.{says_one}
 use Rattle.uleb128.proofs.reading.read_width.Goals as goal
 
-pub returns-then-small : goal.returns-then-small
-returns-then-small c =
-    let there = one_there c.one_byte-small.ensures c.if-small.true in says_one _ _ (search rules) _ _ there.0 there.1
+pub returns-then-one_byte : goal.returns-then-one_byte
+returns-then-one_byte c =
+    let there = one_there c.one_byte.ensures c.if-one_byte.true in says_one _ _ (search rules) _ _ there.0 there.1
