@@ -2,7 +2,6 @@
 // complemented. The last byte's bit of weight 64 tells the sign.
 ghost use Rattle.std.specs.Prelude.{◌≡◌, [], ◌∷◌, ◌^◌, ◌≤◌, ◌<◌, ltb};
 ghost use Rattle.words.specs.Answer.{both};
-ghost use Rattle.groups.specs.Inner.{OneByte};
 ghost use Rattle.groups.specs.Width.{Due};
 ghost use Rattle.sleb128.specs.Signed.{signed as Signed-of, i64};
 ghost use Rattle.sleb128.specs.Inner.{saying, closing, Closes};
@@ -12,18 +11,6 @@ use crate::ReadI64;
 use bits::is_high_8_bit_set;
 use groups::{Walked, walk};
 use words::{Count, Place, Refusal};
-
-// Whether the byte at the place is a group of its own: one below 128. Most numbers take one byte, so a reader asks this first.
-fn one_byte(bytes: &[u8], at: usize) -> bool
-    ensures { OneByte bytes.now at result }
-{
-    if bytes.len() <= at {
-        return false;
-    }
-    let b = bytes[at];
-    let more = is_high_8_bit_set(b);
-    !more
-}
 
 // m, or -m-1 below zero.
 fn signed(m: u64, below: bool) -> i64
@@ -91,9 +78,9 @@ pub fn read_i64(bytes: &[u8], start: Place) -> ReadI64
     ensures { ReadsI64 bytes.now start.0 result }
 {
     let at = start.0;
-    let small = one_byte(bytes, at);
-    if small {
-        let b = bytes[at];
+    if let Some(&b) = bytes.get(at)
+        && !is_high_8_bit_set(b)
+    {
         return ReadI64::Number(alone(b), Count(1));
     }
     match walk(bytes, start) {

@@ -2,7 +2,6 @@
 // port of secure-foundations/vest, `leb128.rs`, `parse` (NOTICE).
 ghost use Rattle.std.specs.Prelude.{◌≡◌, false, ◌+◌, ◌-◌, ◌*◌, ◌^◌, ◌<◌, ltb};
 ghost use Rattle.words.specs.Answer.{pick, either};
-ghost use Rattle.groups.specs.Inner.{OneByte};
 ghost use Rattle.uleb128.specs.Unsigned.{unsigned};
 ghost use Rattle.uleb128.specs.Inner.{Wide, NotOneByte};
 ghost use Rattle.uleb128.specs.Promise.{Reads64, ReadsU64, ReadsU32};
@@ -11,18 +10,6 @@ use crate::{ReadU32, ReadU64};
 use bits::is_high_8_bit_set;
 use groups::{Walked, walk};
 use words::{Count, Place, Refusal};
-
-// Whether the byte at the place is a group of its own: one below 128. Most numbers take one byte, so a reader asks this first.
-fn one_byte(bytes: &[u8], at: usize) -> bool
-    ensures { OneByte bytes.now at result }
-{
-    if bytes.len() <= at {
-        return false;
-    }
-    let b = bytes[at];
-    let more = is_high_8_bit_set(b);
-    !more
-}
 
 // The number of a group: its high bytes sum to sum, and its last byte weighs weight.
 fn number(sum: u64, weight: u64, high: usize, last: u8) -> ReadU64
@@ -98,32 +85,21 @@ fn read_width(bytes: &[u8], start: Place, most: usize, top: u8) -> ReadU64
 pub fn read_u64(bytes: &[u8], start: Place) -> ReadU64
     ensures { ReadsU64 bytes.now start.0 result }
 {
-    let at = start.0;
-    let small = one_byte(bytes, at);
-    if small {
-        let b = bytes[at];
-        let v = b as u64;
-        return ReadU64::Number(v, Count(1));
+    match bytes.get(start.0) {
+        Some(&b) if !is_high_8_bit_set(b) => ReadU64::Number(b as u64, Count(1)),
+        _ => read_width(bytes, start, 10, 1),
     }
-    read_width(bytes, start, 10, 1)
 }
 
 // The same for a number of 32 bits.
 pub fn read_u32(bytes: &[u8], start: Place) -> ReadU32
     ensures { ReadsU32 bytes.now start.0 result }
 {
-    let at = start.0;
-    let small = one_byte(bytes, at);
-    if small {
-        let b = bytes[at];
-        let v = b as u32;
-        return ReadU32::Number(v, Count(1));
-    }
-    match read_width(bytes, start, 5, 15) {
-        ReadU64::Number(v, n) => {
-            let narrow = v as u32;
-            ReadU32::Number(narrow, n)
-        }
-        ReadU64::Refused(refusal, place) => ReadU32::Refused(refusal, place),
+    match bytes.get(start.0) {
+        Some(&b) if !is_high_8_bit_set(b) => ReadU32::Number(b as u32, Count(1)),
+        _ => match read_width(bytes, start, 5, 15) {
+            ReadU64::Number(v, n) => ReadU32::Number(v as u32, n),
+            ReadU64::Refused(refusal, place) => ReadU32::Refused(refusal, place),
+        },
     }
 }
