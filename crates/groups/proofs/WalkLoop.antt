@@ -11,7 +11,7 @@
 --   walks_from                      what `walking` says of the bytes from the place on is what `walked` says at the place
 --   walk_past                       a start past the end: `Past`
 use Prim.Native.Nat.{ℕ, suc, ◌+◌, ◌*◌, ◌%◌, ◌^◌, ◌≤◌, ◌<◌}
-use mathlib.Core.Path.{◌≡◌, refl, ◌∙◌}
+use mathlib.Core.Path.{◌≡◌, refl}
 use mathlib.Core.List.{List}
 use native.Mathlib.Nat.{mul_comm, pow-succ', mul-le-mul_left}
 use native.Mathlib.Numerals.{add-one}
@@ -76,17 +76,17 @@ module _ {l : List ℕ} {high sum weight : ℕ} (g : WalkedSoFar l high sum weig
   walk_overruns e there many h =
       let r : suc high ≤ run l = run_more l high g.passed there (rw (← e) h) in rw (le-leb 10 (run l) (omega arith))
 
-  pub walk_runs_dry : length l ≤ high → high < 10 → Open (record { 0 = length l }) ≡ walking l
+  pub walk_runs_dry : length l ≤ high → high < 10 → Open (record { 0 = high }) ≡ walking l
   unfolding walking
   walk_runs_dry h few =
-      let e : run l ≡ length l = omega (arith, run_within l, g.passed) in
-      rw (e, lt-leb 10 (length l) (omega (arith, run_within l, g.passed)), eq-eqb (length l) (length l) refl)
+      let e : run l ≡ high = omega (arith, run_within l, g.passed) in
+      rw (e, lt-leb 10 high few, eq-eqb high (length l) (omega (arith, run_within l, g.passed)))
 
-pub walks_from : {s l : List ℕ} {at : ℕ} {r : Walked} → at ≤ length s → l ≡ slice_range s at (length s) → r ≡ walking l → Walks s at r
+pub walks_from : {s : List ℕ} {at : ℕ} {r : Walked} → at ≤ length s → r ≡ walking (slice_range s at (length s)) → Walks s at r
 unfolding walked
-walks_from {s} {l} {at} h e w =
-    let d : l ≡ drop at s = e ∙ rw (← length-drop at s) (take-length (drop at s)) in
-    record { is = rw (w, d, le-ltb (length s) at h) }
+walks_from {s} {at} h w =
+    let rest : slice_range s at (length s) ≡ drop at s = rw (← length-drop at s) (take-length (drop at s)) in
+    record { is = rw (le-ltb (length s) at h, ← rest) w }
 
 pub walk_past : {s : List ℕ} {at : ℕ} → length s < at → Walks s at Past
 unfolding walked

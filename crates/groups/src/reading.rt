@@ -12,12 +12,14 @@ use words::{Count, Place};
 pub fn walk(bytes: &[u8], start: Place) -> Walked
     ensures { Walks bytes.now start.0 result }
 {
-    let Some(rest) = bytes.get(start.0..) else {
+    if bytes.len() < start.0 {
         return Walked::Past;
-    };
+    }
+    let rest = &bytes[start.0..];
+    let most = rest.len().min(9);
     let mut sum: u64 = 0;
     let mut weight: u64 = 1;
-    for (high, &b) in rest[..rest.len().min(9)].iter().enumerate() {
+    for (high, &b) in rest[..most].iter().enumerate() {
         if !is_high_8_bit_set(b) {
             return Walked::Closed {
                 sum,
@@ -29,13 +31,13 @@ pub fn walk(bytes: &[u8], start: Place) -> Walked
         sum += weight * take_low_7_bits(b as u64) as u64;
         weight *= 128;
     }
-    match rest.get(9) {
-        None => Walked::Open(Count(rest.len())),
+    match rest.get(most) {
+        None => Walked::Open(Count(most)),
         Some(&last) if is_high_8_bit_set(last) => Walked::Long,
         Some(&last) => Walked::Closed {
             sum,
             weight,
-            high: Count(9),
+            high: Count(most),
             last,
         },
     }

@@ -78,10 +78,8 @@ pub fn read_i64(bytes: &[u8], start: Place) -> ReadI64
     ensures { ReadsI64 bytes.now start.0 result }
 {
     let at = start.0;
-    if let Some(&b) = bytes.get(at)
-        && !is_high_8_bit_set(b)
-    {
-        return ReadI64::Number(alone(b), Count(1));
+    if at < bytes.len() && !is_high_8_bit_set(bytes[at]) {
+        return ReadI64::Number(alone(bytes[at]), Count(1));
     }
     match walk(bytes, start) {
         Walked::Past => ReadI64::Refused(Refusal::Place, start),

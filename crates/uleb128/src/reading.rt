@@ -85,21 +85,23 @@ fn read_width(bytes: &[u8], start: Place, most: usize, top: u8) -> ReadU64
 pub fn read_u64(bytes: &[u8], start: Place) -> ReadU64
     ensures { ReadsU64 bytes.now start.0 result }
 {
-    match bytes.get(start.0) {
-        Some(&b) if !is_high_8_bit_set(b) => ReadU64::Number(b as u64, Count(1)),
-        _ => read_width(bytes, start, 10, 1),
+    let at = start.0;
+    if at < bytes.len() && !is_high_8_bit_set(bytes[at]) {
+        return ReadU64::Number(bytes[at] as u64, Count(1));
     }
+    read_width(bytes, start, 10, 1)
 }
 
 // The same for a number of 32 bits.
 pub fn read_u32(bytes: &[u8], start: Place) -> ReadU32
     ensures { ReadsU32 bytes.now start.0 result }
 {
-    match bytes.get(start.0) {
-        Some(&b) if !is_high_8_bit_set(b) => ReadU32::Number(b as u32, Count(1)),
-        _ => match read_width(bytes, start, 5, 15) {
-            ReadU64::Number(v, n) => ReadU32::Number(v as u32, n),
-            ReadU64::Refused(refusal, place) => ReadU32::Refused(refusal, place),
-        },
+    let at = start.0;
+    if at < bytes.len() && !is_high_8_bit_set(bytes[at]) {
+        return ReadU32::Number(bytes[at] as u32, Count(1));
+    }
+    match read_width(bytes, start, 5, 15) {
+        ReadU64::Number(v, n) => ReadU32::Number(v as u32, n),
+        ReadU64::Refused(refusal, place) => ReadU32::Refused(refusal, place),
     }
 }

@@ -5,8 +5,8 @@ use borrow.Author.Tests.{leb-true, leb-false}
 use Rattle.groups.proofs.WalkLoop.{walk_past, none_walked, byte_taken, walk_closes, walk_overruns, one_walked, walk_runs_dry, part_fits, weight_fits, walks_from}
 use Rattle.groups.proofs.reading.walk.Goals as goal
 
-pub returns-in_default : goal.returns-in_default
-returns-in_default c = walk_past (omega (arith, c.in_default.ensures.lookup))
+pub returns-then-bytes-start : goal.returns-then-bytes-start
+returns-then-bytes-start c = walk_past c.if-bytes-start.true
 
 pub loop-high-init : goal.loop-high-init
 loop-high-init c = none_walked _
@@ -14,7 +14,7 @@ loop-high-init c = none_walked _
 -- within the loop, a byte stands at the place and eight at most were walked
 pub returns-then-not-is_high_8_bit_set : goal.returns-then-not-is_high_8_bit_set
 returns-then-not-is_high_8_bit_set c =
-    walks_from c.in-Some.ensures.lookup.0.0 c.in-Some.ensures.lookup.0.2
+    walks_from (omega arith)
     (walk_closes c.loop-high.invariant (byte_taken _ _ c.loop-high-test.true) (omega (arith, length-take {A = ℕ})) (omega (arith, length-take {A = ℕ}))
     (leb-false _ _ (sym c.if-not-is_high_8_bit_set.ensures)))
 
@@ -33,22 +33,23 @@ loop-high-preserved c =
     (one_walked c.loop-high.invariant (byte_taken _ _ c.loop-high-test.true) (omega (arith, length-take {A = ℕ}))
     (leb-true _ _ (sym c.if-not-is_high_8_bit_set.ensures)))
 
--- behind the loop: with fewer than ten bytes all were walked, else nine
+-- behind the loop, as many were walked as it was given: all, if fewer than ten, else nine
 pub returns-in-None : goal.returns-in-None
 returns-in-None c =
-    walks_from c.in-Some.ensures.lookup.0.0 c.in-Some.ensures.lookup.0.2
-    (walk_runs_dry c.loop-high.invariant (omega (arith, c.in-None.ensures.lookup, length-take {A = ℕ})) (omega (arith, length-take {A = ℕ})))
+    let all : c.min-most.result ≡ c.loop-high.high = omega (arith, length-take {A = ℕ}) in
+    walks_from (omega arith)
+    (rw all (walk_runs_dry c.loop-high.invariant (omega (arith, c.in-None.ensures.lookup)) (omega arith)))
 
-pub returns-in-Some-get : goal.returns-in-Some-get
-returns-in-Some-get c =
-    let nine : c.loop-high.high ≡ 9 = omega (arith, c.in-Some-get.ensures.lookup, length-take {A = ℕ}) in
-    walks_from c.in-Some.ensures.lookup.0.0 c.in-Some.ensures.lookup.0.2
-    (walk_overruns c.loop-high.invariant (rw nine (c.in-Some-get.ensures.lookup.3.1 0)) (omega (arith, c.in-Some-get.ensures.lookup)) (omega arith)
-    (leb-true _ _ (sym c.if-is_high_8_bit_set.ensures)))
+pub returns-in-Some : goal.returns-in-Some
+returns-in-Some c =
+    let all : c.min-most.result ≡ c.loop-high.high = omega (arith, length-take {A = ℕ}) in
+    walks_from (omega arith)
+    (walk_overruns c.loop-high.invariant (rw all at (c.in-Some.ensures.lookup.3.1 0)) (omega (arith, c.in-Some.ensures.lookup))
+    (omega (arith, c.in-Some.ensures.lookup)) (leb-true _ _ (sym c.if-is_high_8_bit_set.ensures)))
 
 pub returns-in-Some-2 : goal.returns-in-Some-2
 returns-in-Some-2 c =
-    let nine : c.loop-high.high ≡ 9 = omega (arith, c.in-Some-get.ensures.lookup, length-take {A = ℕ}) in
-    walks_from c.in-Some.ensures.lookup.0.0 c.in-Some.ensures.lookup.0.2
-    (rw (← nine) (walk_closes c.loop-high.invariant (rw nine (c.in-Some-get.ensures.lookup.3.1 0)) (omega (arith, c.in-Some-get.ensures.lookup)) (omega arith)
-    (leb-false _ _ (sym c.if-is_high_8_bit_set.ensures))))
+    let all : c.min-most.result ≡ c.loop-high.high = omega (arith, length-take {A = ℕ}) in
+    walks_from (omega arith)
+    (rw all (walk_closes c.loop-high.invariant (rw all at (c.in-Some.ensures.lookup.3.1 0)) (omega (arith, c.in-Some.ensures.lookup))
+    (omega arith) (leb-false _ _ (sym c.if-is_high_8_bit_set.ensures))))

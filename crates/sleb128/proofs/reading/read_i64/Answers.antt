@@ -1,6 +1,6 @@
 -- `sleb128::read_i64` meets its promise: one byte below 128 is read by itself; what the walk tells is a law over the width, and of a group that
 -- closes a law of `SignedGroups`.
-use Rattle.std.proofs.Common.{sym, arith, rules}
+use Rattle.std.proofs.Common.{refl, sym, arith, rules}
 use borrow.Author.Tests.{leb-false}
 use Rattle.groups.proofs.Rows.{read_past, due_kept, due_passed}
 use Rattle.groups.proofs.OneByte.{read_one}
@@ -11,11 +11,10 @@ use Rattle.sleb128.proofs.Widths.{sound}
 use Rattle.sleb128.proofs.SignedGroups.{closed_closes, closed_reads}
 use Rattle.sleb128.proofs.reading.read_i64.Goals as goal
 
-pub returns : goal.returns
-returns c =
-    let there = c.in-Some.ensures.lookup.3 in
+pub returns-then-not-is_high_8_bit_set : goal.returns-then-not-is_high_8_bit_set
+returns-then-not-is_high_8_bit_set c =
     rw (word_back c.alone.result (search rules), c.alone.ensures)
-    (due_kept (read_one i64 (omega arith) _ _ (there.1 0) there.0 (leb-false _ _ (sym c.if-not-is_high_8_bit_set.ensures))))
+    (due_kept (read_one i64 (omega arith) _ _ refl c.if-at-bytes.true (leb-false _ _ (sym c.if-not-is_high_8_bit_set.ensures))))
 
 pub returns-in-Past : goal.returns-in-Past
 returns-in-Past c = due_kept (read_past i64 _ _ (walk_tells _ _ c.walk.ensures c.in-Past.is))
