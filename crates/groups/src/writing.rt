@@ -37,11 +37,8 @@ fn length_unsigned(v: u64) -> Count
     ensures { Takes (spell false 128 v) result }
 {
     let n = (72 - v.leading_zeros() as usize) / 8;
-    if GROWTH[n - 1] <= v {
-        Count(n + 1)
-    } else {
-        Count(n)
-    }
+    let growth = GROWTH[n - 1];
+    if growth <= v { Count(n + 1) } else { Count(n) }
 }
 
 // How many a signed one takes. It ends where what is left of m is below 64, so that the last byte's bit of weight 64 tells the sign: so

@@ -2,8 +2,8 @@
 use Rattle.groups.proofs.Lookup.{by_bits, growth_passed, growth_not_passed}
 use Rattle.groups.proofs.writing.length_unsigned.Goals as goal
 
-pub returns-then-n-v : goal.returns-then-n-v
-returns-then-n-v c = growth_passed (by_bits _ c.ranges.v.fits) c.if-n-v.true
+pub returns-then-growth-v : goal.returns-then-growth-v
+returns-then-growth-v c = growth_passed (by_bits _ c.ranges.v.fits) c.if-growth-v.true
 
-pub returns-else-n-v : goal.returns-else-n-v
-returns-else-n-v c = growth_not_passed (by_bits _ c.ranges.v.fits) c.if-n-v.false
+pub returns-else-growth-v : goal.returns-else-growth-v
+returns-else-growth-v c = growth_not_passed (by_bits _ c.ranges.v.fits) c.if-growth-v.false
