@@ -10,7 +10,7 @@ use mathlib.Core.List.{List, [], ◌∷◌, ◌++◌}
 use mathlib.Core.Bool.{Bool}
 use native.Mathlib.Nat.{add-zero, sub-zero}
 use native.Mathlib.Omega.{arith}
-use Rattle.std.proofs.Common.{append_assoc}
+use Rattle.std.proofs.Common.{append_assoc, Ok}
 use borrow.Rule.Slice.PartMut.{put_mid}
 use lib.ListN.{length, get_or, take, drop, set}
 use lib.Seq.{paste, take-length, get_or-drop, drop-drop}
@@ -18,7 +18,6 @@ use Rattle.std.proofs.lemmas.List.{take_more, take_more_set}
 use Rattle.std.proofs.lemmas.List.Edits.{paste_more}
 use Rattle.words.specs.Lays.{Lays}
 use Rattle.words.specs.declared.Count.{Count}
-use Rattle.words.specs.declared.Written.TheVariants.{Bytes}
 use Rattle.words.proofs.Lays.{fits_there}
 use Rattle.groups.specs.Form.{say}
 use Rattle.groups.specs.Inner.{groups}
@@ -65,7 +64,7 @@ module _ (below : Bool) (n m : ℕ) where
 
 pub all_stored : (below : Bool) (n : Count) (m : ℕ) {part : List ℕ} {rest i : ℕ} → Stored below n.0 m part rest i
     → (s : List ℕ) (at k last : ℕ) {bits said : ℕ} → at + n.0 ≤ length s → n.0 ≡ i + 1 → k ≡ i → last ≡ at + i → length part ≡ i
-    → bits ≡ take_low_7_bits_lem rest → said ≡ say below bits → Lays (groups below n.0 m) s at (Bytes n) (set (put_mid at k s part) last said)
+    → bits ≡ take_low_7_bits_lem rest → said ≡ say below bits → Lays (groups below n.0 m) s at (Ok n) (set (put_mid at k s part) last said)
 all_stored below n m {part} {rest} {i} g s at k last {bits} {said} room h e j l p q =
     let group = groups below n.0 m in
     let count : length group ≡ n.0 = length_groups below n.0 m in

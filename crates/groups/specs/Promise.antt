@@ -7,10 +7,9 @@
 --   SpelledLength n r     so many bytes spell the number n
 --   Stores n s at r out   the bytes that spell the number n are laid down at this place of s, or none
 use Rattle.std.specs.Prelude.{ℕ, ◌^◌, List, ◌≡◌, leb, ltb, eqb, length, get_or, take, drop}
-use Rattle.words.specs.Answer.{pick}
+use Rattle.words.specs.Answer.{pick, Written}
 use Rattle.words.specs.Lays.{Lays, Takes}
 use Rattle.words.specs.declared.Count.{Count}
-use Rattle.words.specs.declared.Written.{Written}
 use Rattle.groups.specs.Group.{run, digits}
 use Rattle.groups.specs.Form.{spelling}
 use Rattle.groups.specs.declared.Value.{Value}

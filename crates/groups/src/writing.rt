@@ -9,7 +9,7 @@ ghost use Rattle.groups.specs.Promise.{SpelledLength, Stores};
 
 use crate::Value;
 use bits::{set_high_8_bit, take_low_7_bits};
-use words::{Count, Place, Refusal, Written, has_room};
+use words::{Count, Place, Refusal, has_room};
 
 // The values at which a 64-bit number grows by a byte.
 static GROWTH: [u64; 9] = [
@@ -68,12 +68,12 @@ fn said(bits: u8, below: bool) -> u8
 }
 
 // Lays down count bytes, at least one, that spell m (below zero: that spell -m-1 in two's complement), or none if they don't fit.
-fn lay(m: u64, below: bool, count: Count, buffer: &mut [u8], place: Place) -> Written
+fn lay(m: u64, below: bool, count: Count, buffer: &mut [u8], place: Place) -> Result<Count, Refusal>
     requires { 0 < count.0 }
     ensures { Lays (groups below count.0 m) buffer.old place.0 result buffer.new }
 {
     if !has_room(buffer.len(), place, count) {
-        return Written::Refused(Refusal::NoRoom);
+        return Err(Refusal::NoRoom);
     }
     let last = place.0 + (count.0 - 1);
     let mut rest = m;
@@ -82,11 +82,11 @@ fn lay(m: u64, below: bool, count: Count, buffer: &mut [u8], place: Place) -> Wr
         rest /= 128;
     }
     buffer[last] = said(take_low_7_bits(rest), below);
-    Written::Bytes(count)
+    Ok(count)
 }
 
 // Lays down the bytes that spell the number and answers their count; else 5, and no byte is changed.
-pub fn store(number: Value, buffer: &mut [u8], place: Place) -> Written
+pub fn store(number: Value, buffer: &mut [u8], place: Place) -> Result<Count, Refusal>
     ensures { Stores number buffer.old place.0 result buffer.new }
 {
     match number {
