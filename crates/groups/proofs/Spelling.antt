@@ -116,7 +116,7 @@ some_bytes (byte p r) = omega arith
 pub takes_some : (below : Bool) (small m : ℕ) {r : Count} → 0 < small → Takes (spell below small m) r → 0 < r.0
 takes_some below small m h p = omega (arith, p.is, some_bytes (spelled below small h m))
 
-grown : (below : Bool) (n m : ℕ) → 0 < n → groups below (suc n) m ≡ (128 + say below (m % 128)) ∷ groups below n (m / 128)
+pub grown : (below : Bool) (n m : ℕ) → 0 < n → groups below (suc n) m ≡ (128 + say below (m % 128)) ∷ groups below n (m / 128)
 unfolding groups
 grown below zero m h = absurd (omega arith)
 grown below (suc n) m h = refl

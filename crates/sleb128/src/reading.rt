@@ -2,7 +2,6 @@
 // complemented. The last byte's bit of weight 64 tells the sign.
 ghost use Rattle.std.specs.Prelude.{◌≡◌, [], ◌∷◌, ◌^◌, ◌≤◌, ◌<◌, ltb};
 ghost use Rattle.words.specs.Answer.{both, means_read};
-ghost use Rattle.groups.specs.Inner.{OneByte};
 ghost use Rattle.groups.specs.Width.{Due};
 ghost use Rattle.sleb128.specs.Signed.{signed as Signed-of, i64};
 ghost use Rattle.sleb128.specs.Inner.{saying, closing, Closes};
@@ -11,18 +10,6 @@ ghost use Rattle.sleb128.specs.Promise.{ReadsI64};
 use bits::is_high_8_bit_set;
 use groups::{Walked, walk};
 use words::{Count, Fault, Place, Refusal};
-
-// Whether the byte at the place is a group of its own: one below 128. Most numbers take one byte, so a reader asks this first.
-fn one_byte(bytes: &[u8], at: usize) -> bool
-    ensures { OneByte bytes.now at result }
-{
-    if bytes.len() <= at {
-        return false;
-    }
-    let b = bytes[at];
-    let more = is_high_8_bit_set(b);
-    !more
-}
 
 // m, or -m-1 below zero.
 fn signed(m: u64, below: bool) -> i64
@@ -91,7 +78,7 @@ pub fn read_i64(bytes: &[u8], start: Place) -> Result<(i64, Count), Fault>
     ensures { ReadsI64 bytes.now start.0 result }
 {
     let at = start.0;
-    if one_byte(bytes, at) {
+    if at < bytes.len() && !is_high_8_bit_set(bytes[at]) {
         return Ok((alone(bytes[at]), Count(1)));
     }
     match walk(bytes, start) {

@@ -2,7 +2,6 @@
 // port of secure-foundations/vest, `leb128.rs`, `parse` (NOTICE).
 ghost use Rattle.std.specs.Prelude.{◌≡◌, false, ◌+◌, ◌-◌, ◌*◌, ◌^◌, ◌<◌, ltb};
 ghost use Rattle.words.specs.Answer.{pick, either, means_read};
-ghost use Rattle.groups.specs.Inner.{OneByte};
 ghost use Rattle.groups.specs.Width.{Reads};
 ghost use Rattle.uleb128.specs.Unsigned.{unsigned};
 ghost use Rattle.uleb128.specs.Inner.{Wide, NotOneByte};
@@ -11,18 +10,6 @@ ghost use Rattle.uleb128.specs.Promise.{ReadsU64, ReadsU32};
 use bits::is_high_8_bit_set;
 use groups::{Walked, walk};
 use words::{Count, Fault, Place, Refusal};
-
-// Whether the byte at the place is a group of its own: one below 128. Most numbers take one byte, so a reader asks this first.
-fn one_byte(bytes: &[u8], at: usize) -> bool
-    ensures { OneByte bytes.now at result }
-{
-    if bytes.len() <= at {
-        return false;
-    }
-    let b = bytes[at];
-    let more = is_high_8_bit_set(b);
-    !more
-}
 
 // The number of a group: its high bytes sum to sum, and its last byte weighs weight.
 fn number(sum: u64, weight: u64, high: usize, last: u8) -> (u64, Count)
@@ -88,7 +75,7 @@ fn read_width(bytes: &[u8], start: Place, most: usize, top: u8) -> Result<(u64, 
     ensures { Reads (unsigned most top) bytes.now start.0 (means_read result) }
 {
     let at = start.0;
-    if one_byte(bytes, at) {
+    if at < bytes.len() && !is_high_8_bit_set(bytes[at]) {
         return Ok((bytes[at] as u64, Count(1)));
     }
     read_several(bytes, start, most, top)

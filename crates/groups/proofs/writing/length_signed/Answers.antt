@@ -8,5 +8,5 @@ use Rattle.groups.proofs.writing.length_signed.Goals as goal
 
 pub returns : goal.returns
 returns c =
-    let m = c.magnitude-m.ensures ∙ ap mag (word_back c.args.v c.ranges.v.sfits) in
+    let m = c.magnitude.ensures ∙ ap mag (word_back c.args.v c.ranges.v.sfits) in
     record { is = c.length_unsigned.ensures.is ∙ ap (λ (x : ℕ). length (spell false 128 (x * 2))) m ∙ sym (as_twice _ _) }
