@@ -17,12 +17,12 @@ use lib.IntN.{ℤ, pos, negsuc}
 use lib.Signed.{mag, lt_z}
 use Rattle.words.specs.Lays.{Lays}
 use Rattle.words.specs.declared.Count.{Count}
+use Rattle.words.specs.Answer.{Written}
 use Rattle.groups.specs.Form.{below}
 use Rattle.groups.specs.Inner.{groups}
 use Rattle.groups.specs.Promise.{SpelledLength, Stores}
 use Rattle.groups.specs.declared.Value.TheVariants.{Signed}
 use Rattle.groups.proofs.Spelling.{spelled, spelled_laid}
-use Rattle.words.specs.Answer.{Written}
 
 pub below_sign : (v : ℤ) → lt_z v (pos 0) ≡ below v
 below_sign (pos n) = le-ltb n 0 (omega arith)

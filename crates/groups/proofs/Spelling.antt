@@ -31,12 +31,12 @@ use borrow.Author.Tests.{lt-ltb, le-ltb}
 use lib.ListN.{length, get_or}
 use Rattle.words.specs.Lays.{Lays, Takes}
 use Rattle.words.specs.declared.Count.{Count}
+use Rattle.words.specs.Answer.{Written}
 use Rattle.words.proofs.Cases.{by_order}
 use Rattle.groups.specs.Group.{run, Group, one, more, digits}
 use Rattle.groups.specs.Form.{say, spellings, spell}
 use Rattle.groups.specs.Inner.{groups}
 use Rattle.groups.proofs.Run.{run_low, run_high, pow_up}
-use Rattle.words.specs.Answer.{Written}
 
 pub say_below : (below : Bool) (d : ℕ) → d < 128 → say below d < 128
 say_below true d h = omega arith

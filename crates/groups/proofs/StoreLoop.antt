@@ -10,19 +10,19 @@ use mathlib.Core.List.{List, [], ◌∷◌, ◌++◌}
 use mathlib.Core.Bool.{Bool}
 use native.Mathlib.Nat.{add-zero, sub-zero}
 use native.Mathlib.Omega.{arith}
-use Rattle.std.proofs.Common.{append_assoc, Ok}
 use borrow.Rule.Slice.PartMut.{put_mid}
 use lib.ListN.{length, get_or, take, drop, set}
 use lib.Seq.{paste, take-length, get_or-drop, drop-drop}
+use Rattle.std.proofs.Common.{append_assoc, Ok}
 use Rattle.std.proofs.lemmas.List.{take_more, take_more_set}
 use Rattle.std.proofs.lemmas.List.Edits.{paste_more}
 use Rattle.words.specs.Lays.{Lays}
 use Rattle.words.specs.declared.Count.{Count}
 use Rattle.words.proofs.Lays.{fits_there}
-use Rattle.groups.specs.Form.{say}
-use Rattle.groups.specs.Inner.{groups}
 use Rattle.bits.specs.Macros.{take_low_7_bits_lem, set_high_8_bit_lem}
 use Rattle.bits.proofs.HighBit.{set_seven}
+use Rattle.groups.specs.Form.{say}
+use Rattle.groups.specs.Inner.{groups}
 use Rattle.groups.proofs.Spelling.{length_groups, say_below, grown}
 
 -- all of the bytes pasted are the bytes laid down

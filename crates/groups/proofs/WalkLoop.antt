@@ -18,9 +18,9 @@ use native.Mathlib.Numerals.{add-one}
 use native.Mathlib.Omega.{arith}
 use borrow.Author.Tests.{lt-ltb, le-ltb, le-leb, lt-leb, eq-eqb, ne_eqb}
 use lib.ListN.{length, get_or, take, drop, length-drop}
+use lib.Seq.{take-length}
 use Rattle.std.specs.List.{slice_range}
 use Rattle.std.proofs.lemmas.List.{get_or-take, length-take}
-use lib.Seq.{take-length}
 use Rattle.groups.specs.Group.{run, digits}
 use Rattle.groups.specs.Promise.{walking, walked, Walks}
 use Rattle.groups.specs.declared.Walked.{Walked}

@@ -1,6 +1,6 @@
 -- `entries::entry_length` keeps what it promises inside the crate: each number takes ten bytes at most.
-use Rattle.std.proofs.Common.{◌<◌, ◌^◌, arith}
 use Rattle.std.specs.Int.Signed.{mag}
+use Rattle.std.proofs.Common.{◌<◌, ◌^◌, arith}
 use Rattle.groups.proofs.SignedWords.{word_back}
 use Rattle.entries.proofs.PutEntry.{form_ten, signed_ten}
 use Rattle.entries.proofs.writing.entry_length.Goals as goal

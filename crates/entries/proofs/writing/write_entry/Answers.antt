@@ -1,6 +1,6 @@
 -- `entries::write_entry` meets its promise: an absurd turn, no room, or the entry is laid down.
-use Rattle.std.proofs.Common.{rules, ◌<◌, ◌^◌, arith}
 use Rattle.std.specs.Int.Signed.{mag}
+use Rattle.std.proofs.Common.{rules, ◌<◌, ◌^◌, arith}
 use Rattle.words.proofs.Lays.{room_refused, room_there}
 use Rattle.words.proofs.LaysInParts.{puts_lays}
 use Rattle.groups.proofs.SignedWords.{word_back}

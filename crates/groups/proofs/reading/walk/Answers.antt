@@ -1,7 +1,7 @@
 -- `groups::walk` meets its promise: each way out of its loop is a law of `WalkLoop`.
+use borrow.Author.Tests.{leb-true, leb-false}
 use Rattle.std.proofs.Common.{◌≡◌, ℕ, sym, arith}
 use Rattle.std.proofs.lemmas.List.{length-take}
-use borrow.Author.Tests.{leb-true, leb-false}
 use Rattle.groups.proofs.WalkLoop.{walk_past, none_walked, byte_taken, walk_closes, walk_overruns, one_walked, walk_runs_dry, part_fits, weight_fits, walks_from}
 use Rattle.groups.proofs.reading.walk.Goals as goal
 

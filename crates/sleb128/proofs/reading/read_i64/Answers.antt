@@ -1,7 +1,7 @@
 -- `sleb128::read_i64` meets its promise: one byte below 128 is read by itself; what the walk tells is a law over the width, and of a group that
 -- closes a law of `SignedGroups`.
-use Rattle.std.proofs.Common.{refl, sym, arith, rules}
 use borrow.Author.Tests.{leb-false}
+use Rattle.std.proofs.Common.{refl, sym, arith, rules}
 use Rattle.groups.proofs.Rows.{read_past, due_kept, due_passed}
 use Rattle.groups.proofs.OneByte.{read_one}
 use Rattle.groups.proofs.FromWalk.{walk_tells, closed_below, open_end, overrun_large, overrun_inside, closed_inside, closed_several}

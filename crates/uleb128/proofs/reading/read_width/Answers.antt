@@ -1,6 +1,6 @@
 -- `uleb128::read_width` keeps what it promises inside the crate: one byte below 128 is the number itself.
-use Rattle.std.proofs.Common.{refl, sym, rules}
 use borrow.Author.Tests.{leb-false}
+use Rattle.std.proofs.Common.{refl, sym, rules}
 use Rattle.uleb128.proofs.Widths.{says_one}
 use Rattle.uleb128.proofs.reading.read_width.Goals as goal
 

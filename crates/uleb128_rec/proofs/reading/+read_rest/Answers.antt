@@ -1,6 +1,6 @@
 -- `uleb128_rec::read_rest` keeps what it promises inside the crate: each answer is a law of `ByteInFront`.
-use Rattle.std.proofs.Common.{ap, not, arith, rules}
 use mathlib.Core.Logic.{⊎_elim}
+use Rattle.std.proofs.Common.{ap, not, arith, rules}
 use Rattle.bits.proofs.HighBit.{bit_clear, bit_set}
 use Rattle.groups.proofs.Rows.{due_passed}
 use Rattle.uleb128_rec.proofs.ByteInFront.{rest_end, rest_last, rest_large, rest_overrun, rest_ahead, reads_joins}
