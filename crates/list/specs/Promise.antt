@@ -17,6 +17,7 @@ abbrev pub means_input : {E : Type 0} → Result Count E → Known
 means_input (Ok n) = bytes n.0
 means_input (Err e) = failed
 
-abbrev pub means_next : {E : Type 0} → ControlFlow (Result Count E) Count → Next
-means_next (C.Continue n) = more n.0
-means_next (C.Break i) = ended (means_input i)
+abbrev pub means_next : {E : Type 0} → Result (ControlFlow Count Count) E → Next
+means_next (Ok (C.Continue n)) = more n.0
+means_next (Ok (C.Break n)) = ended (bytes n.0)
+means_next (Err e) = ended failed

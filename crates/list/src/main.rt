@@ -22,17 +22,18 @@ const INPUT_ROOM: usize = BLOCK_LIMIT + 1;
 // A buffer of so many bytes holds every note.
 const NOTE_ROOM: usize = 128;
 
-// What follows where a read behind the first bytes of the input has answered: another one, behind so many bytes; or the input is known,
-// by how many of its bytes stand at the front of the buffer, or by why it can't be read. A read that moves no byte is the input's end.
-fn after_read(there: Count, read: io::Result<usize>) -> ControlFlow<io::Result<Count>, Count>
+// What follows where a read behind the first bytes of the input has answered: another read, behind so many bytes; or so many are all of
+// it, or all that was asked for. A read that moves no byte is the input's end.
+fn after_read(there: Count, read: io::Result<usize>) -> io::Result<ControlFlow<Count, Count>>
     requires { IfOk read (λ n. there.0 + n ≤ input_room) }
     ensures { means_next result ≡ following there.0 (means_read read) }
 {
-    match read {
-        Ok(0) => ControlFlow::Break(Ok(there)),
-        Ok(more) if there.0 + more < INPUT_ROOM => ControlFlow::Continue(Count(there.0 + more)),
-        Ok(more) => ControlFlow::Break(Ok(Count(there.0 + more))),
-        Err(error) => ControlFlow::Break(Err(error)),
+    let moved = read?;
+    let now = there.0 + moved;
+    if 0 < moved && now < INPUT_ROOM {
+        Ok(ControlFlow::Continue(Count(now)))
+    } else {
+        Ok(ControlFlow::Break(Count(now)))
     }
 }
 
@@ -44,9 +45,9 @@ fn take_in(mut from: Stdin, input: &mut [u8]) -> io::Result<Count>
     let mut there = Count(0);
     loop {
         let read = from.read(&mut input[there.0..]);
-        match after_read(there, read) {
+        match after_read(there, read)? {
             ControlFlow::Continue(count) => there = count,
-            ControlFlow::Break(known) => return known,
+            ControlFlow::Break(count) => return Ok(count),
         }
     }
 }
@@ -86,31 +87,14 @@ fn lay_note(known: io::Result<Count>, written: io::Result<()>, note: &mut [u8; N
     }
 }
 
-// Writes the first bytes of the buffer.
-fn put(to: &impl Print, bytes: &[u8], count: Count) -> io::Result<()>
-    requires { count.0 ≤ length bytes.now }
-{
-    to.write_all(&bytes[..count.0])
-}
-
-// Lists the input. The arrays come from `main`: to lend one as a slice where it is made costs the check a step for each of its
-// bytes.
-fn list_input(
-    rt: HostRuntime,
-    input: &mut [u8; INPUT_ROOM],
-    text: &mut [u8; TEXT_ROOM],
-    note: &mut [u8; NOTE_ROOM],
-) {
-    let known = take_in(rt.stdin(), input);
-    let listed = lay_text(known, input, text);
-    let written = put(&rt.stdout(), text, listed);
-    let noted = lay_note(known, written, note);
-    let _ = put(&rt.stderr(), note, noted);
-}
-
 fn main(rt: HostRuntime) {
     let mut input = [0u8; INPUT_ROOM];
     let mut text = [0u8; TEXT_ROOM];
     let mut note = [0u8; NOTE_ROOM];
-    list_input(rt, &mut input, &mut text, &mut note);
+    let known = take_in(rt.stdin(), &mut input);
+    let listed = lay_text(known, &input, &mut text);
+    let written = rt.stdout().write_all(&text[..listed.0]);
+    let noted = lay_note(known, written, &mut note);
+    // Where standard error can't be written, there is nowhere to say so.
+    let _ = rt.stderr().write_all(&note[..noted.0]);
 }
