@@ -3,101 +3,94 @@
 // README.md shows parts of this file.
 #![tactic(auto)]
 
-use blocks::{Cursor, Rule, SetDown, Step};
+use blocks::{Cursor, Rule, Step};
 use entries::{Entry, ReadEntry};
 use groups::Value;
-use lists::{Numbers, ReadList};
-use phrases::ReadPhrase;
-use sleb128::ReadI64;
-use slips::{Range, ReadSetting, Setting};
-use std::io::{Print, Stdout};
-use turns::{Meaning, Turn};
-use uleb128::ReadU64;
-use words::{Count, Place, Refusal, Written};
+use lists::{NotRead, Numbers};
+use slips::{Range, Setting};
+use std::io::{self, Print};
+use turns::Turn;
+use words::{Count, Fault, Place, Refusal};
 
-// Writes an unsigned number at a place. The next one goes count bytes behind it; a refused write has changed no byte.
-fn write_number(out: Stdout, v: u64, buffer: &mut [u8], place: Place) {
-    match uleb128::write_u64(v, buffer, place) {
-        Ok(count) => say_count(out, count),
+// Says what a writer answered. The next number, setting or entry goes count bytes behind it; a refused write has changed no byte.
+fn say_written(out: &impl Print, written: Result<Count, Refusal>) -> io::Result<()> {
+    match written {
+        Ok(Count(count)) => println!(out; "count {count}"),
         Err(refusal) => say_refused(out, refusal),
     }
 }
 
-// Writes quarter turns at a place.
-fn write_turn(out: Stdout, quarters: i64, buffer: &mut [u8], place: Place) {
-    match sleb128::write_i64(quarters, buffer, place) {
-        Ok(count) => say_count(out, count),
-        Err(refusal) => say_refused(out, refusal),
-    }
+fn say_refused(out: &impl Print, refusal: Refusal) -> io::Result<()> {
+    println!(out; "refused {}", words::number(refusal))
+}
+
+// The same, and the place of the byte that decided it.
+fn say_fault(out: &impl Print, Fault(refusal, byte): Fault) -> io::Result<()> {
+    say_refused(out, refusal)?;
+    println!(out; "at {}", byte.0)
 }
 
 // Reads an unsigned number at a place. The next one is count bytes behind it.
-fn read_number(out: Stdout, bytes: &[u8], place: Place) {
+fn read_number(out: &impl Print, bytes: &[u8], place: Place) -> io::Result<()> {
     match uleb128::read_u64(bytes, place) {
-        Ok((v, count)) => {
-            say_number(out, v);
-            say_count(out, count);
+        Ok((number, Count(count))) => {
+            println!(out; "number {number}")?;
+            println!(out; "count {count}")
         }
-        Err(Fault(refusal, byte)) => say_decided(out, refusal, byte),
+        Err(fault) => say_fault(out, fault),
     }
 }
 
 // Reads a signed number at a place, as quarter turns on an adapter with this thread.
-fn read_turn(out: Stdout, bytes: &[u8], place: Place, thread: u8) {
+fn read_turn(out: &impl Print, bytes: &[u8], place: Place, thread: u8) -> io::Result<()> {
     match sleb128::read_i64(bytes, place) {
         Ok((quarters, _)) => say_meaning(out, quarters, thread),
-        Err(Fault(refusal, byte)) => say_decided(out, refusal, byte),
+        Err(fault) => say_fault(out, fault),
     }
 }
 
-fn say_meaning(out: Stdout, quarters: i64, thread: u8) {
+fn say_meaning(out: &impl Print, quarters: i64, thread: u8) -> io::Result<()> {
     match turns::means(quarters, thread) {
-        Ok(turn) => say_turn(out, turn),
+        Ok(Turn::Tighten) => println!(out; "tighten"),
+        Ok(Turn::Loosen) => println!(out; "loosen"),
+        Ok(Turn::Hold) => println!(out; "hold"),
         Err(refusal) => say_refused(out, refusal),
     }
 }
 
-fn say_turn(out: Stdout, turn: Turn) {
-    match turn {
-        Turn::Tighten => line(out, b"tighten\n"),
-        Turn::Loosen => line(out, b"loosen\n"),
-        Turn::Hold => line(out, b"hold\n"),
+// A step by the unsigned rule has an unsigned value, one by the signed rule a signed one.
+fn say_value(out: &impl Print, value: Value) -> io::Result<()> {
+    match value {
+        Value::Unsigned(number) => println!(out; "number {number}"),
+        Value::Signed(quarters) => say_meaning(out, quarters, turns::RIGHT),
     }
 }
 
 // Steps through a block. Where it is damaged there is a gap, and the groups behind it are read as ever. A block of n bytes has
-// at most n groups, so n + 1 steps come to its end: they are counted down because a loop has to be proved to end.
-fn step_through(out: Stdout, block: &[u8], from: Cursor) {
+// at most n groups, so n + 1 steps come to its end.
+fn step_through(out: &impl Print, block: &[u8], from: Cursor) -> io::Result<()> {
     let mut cursor = from;
-    let mut left = block.len() + 1;
-    while 0 < left {
-        left -= 1;
-        match cursor.step(block, Rule::Unsigned) {
+    for _ in 0..=block.len() {
+        cursor = match cursor.step(block, Rule::Unsigned) {
             Ok(Step::Number(value, _, next)) => {
-                say_value(out, value);
-                cursor = next;
+                say_value(out, value)?;
+                next
             }
             Ok(Step::Gap(Fault(reason, byte), _, next)) => {
-                say_gap(out, reason, byte);
-                cursor = next;
+                println!(out; "gap {}", words::number(reason))?;
+                println!(out; "at {}", byte.0)?;
+                next
             }
-            Ok(Step::Tail(count, _)) => {
-                say_tail(out, count);
-                return;
-            }
-            Ok(Step::Finished(_)) => {
-                return;
-            }
-            Err(refusal) => {
-                say_refused(out, refusal);
-                return;
-            }
-        }
+            Ok(Step::Tail(Count(count), _)) => return println!(out; "tail {count}"),
+            Ok(Step::Finished(_)) => return Ok(()),
+            Err(refusal) => return say_refused(out, refusal),
+        };
     }
+    Ok(())
 }
 
 // The same from any place on, be it in the middle of a group: set-down finds the next start.
-fn step_from(out: Stdout, block: &[u8], place: Place) {
+fn step_from(out: &impl Print, block: &[u8], place: Place) -> io::Result<()> {
     match blocks::set_down(block, place) {
         Ok(cursor) => step_through(out, block, cursor),
         Err(refusal) => say_refused(out, refusal),
@@ -105,224 +98,143 @@ fn step_from(out: Stdout, block: &[u8], place: Place) {
 }
 
 // Reads all numbers of a block into a slice, or none of them if anything in the block is damaged.
-fn read_all(out: Stdout, block: &[u8], numbers: &mut [u64]) {
+fn read_all(out: &impl Print, block: &[u8], numbers: &mut [u64]) -> io::Result<()> {
     match lists::read_strict(block, numbers) {
-        Ok(count) => say_numbers(out, count),
-        Err(NotRead::Faulty(Fault(refusal, byte))) => say_decided(out, refusal, byte),
+        Ok(Numbers(count)) => println!(out; "numbers {count}"),
+        Err(NotRead::Faulty(fault)) => say_fault(out, fault),
         Err(NotRead::Refused(refusal)) => say_refused(out, refusal),
     }
 }
 
-// Writes a setting's slip at a place.
-fn write_setting(out: Stdout, setting: Setting, buffer: &mut [u8], place: Place) {
-    match slips::write_setting(setting, buffer, place) {
-        Ok(count) => say_count(out, count),
-        Err(refusal) => say_refused(out, refusal),
-    }
-}
-
 // Reads the setting at a place, for a tool that is set to this torque.
-fn read_setting(out: Stdout, bytes: &[u8], place: Place, torque: f32) {
+fn read_setting(out: &impl Print, bytes: &[u8], place: Place, torque: f32) -> io::Result<()> {
     match slips::read_setting(bytes, place) {
         Ok((setting, _)) => say_setting(out, setting, torque),
         Err(refusal) => say_refused(out, refusal),
     }
 }
 
-fn say_setting(out: Stdout, setting: Setting, torque: f32) {
+fn say_setting(out: &impl Print, setting: Setting, torque: f32) -> io::Result<()> {
     match setting {
-        Setting::Nothing => line(out, b"nothing\n"),
-        Setting::Torque(_) => line(out, b"torque\n"),
-        Setting::Angle(_) => line(out, b"angle\n"),
-        Setting::Range(range) => say_whether(out, slips::lies_in_range(torque, range)),
+        Setting::Nothing => println!(out; "nothing"),
+        Setting::Torque(_) => println!(out; "torque"),
+        Setting::Angle(_) => println!(out; "angle"),
+        Setting::Range(range) if slips::lies_in_range(torque, range) => println!(out; "in range"),
+        Setting::Range(_) => println!(out; "out of range"),
     }
-}
-
-fn say_whether(out: Stdout, in_range: bool) {
-    if in_range {
-        return line(out, b"in range\n");
-    }
-    line(out, b"out of range\n");
 }
 
 // Reads the sentences of a phrase into a slice, or none of them if the list is anything but one item.
-fn read_phrase(out: Stdout, numbers: &[u64], sentences: &mut [u64]) {
+fn read_phrase(out: &impl Print, numbers: &[u64], sentences: &mut [u64]) -> io::Result<()> {
     match phrases::read_phrase(numbers, sentences) {
-        Ok(count) => say_sentences(out, count),
-        Err(refusal) => say_refused(out, refusal),
-    }
-}
-
-// Writes an entry at a place, its mark first.
-fn write_entry(out: Stdout, entry: Entry, buffer: &mut [u8], place: Place) {
-    match entries::write_entry(entry, buffer, place) {
-        Ok(count) => say_count(out, count),
+        Ok(Numbers(count)) => println!(out; "sentences {count}"),
         Err(refusal) => say_refused(out, refusal),
     }
 }
 
 // Reads the entries of a block one after another. Where one is damaged it is bad, and those behind it keep their columns. A block
-// of n bytes has fewer than n entries, so n readings come to the last: they are counted down because a loop has to be proved to end.
-fn read_entries(out: Stdout, block: &[u8]) {
+// of n bytes has fewer than n entries, so n readings come to the last.
+fn read_entries(out: &impl Print, block: &[u8]) -> io::Result<()> {
     let mut place = Place(0);
-    let mut left = block.len();
-    while 0 < left {
-        left -= 1;
-        match entries::read_entry(block, place) {
+    for _ in 0..block.len() {
+        place = match entries::read_entry(block, place) {
             Ok(ReadEntry::Good(entry, end)) => {
-                say_entry(out, entry);
-                place = end;
+                say_entry(out, entry)?;
+                end
             }
             Ok(ReadEntry::Bad(refusal, end)) => {
-                say_ended(out, refusal, end);
-                place = end;
+                say_refused(out, refusal)?;
+                println!(out; "end {}", end.0)?;
+                end
             }
-            Err(_) => {
-                return;
-            }
-        }
+            Err(_) => break,
+        };
     }
+    Ok(())
 }
 
-fn say_entry(out: Stdout, entry: Entry) {
-    say(out, b"segment ", entry.segment);
-    say(out, b"sentence ", entry.sentence);
-    say_meaning(out, entry.turn, turns::RIGHT);
+fn say_entry(out: &impl Print, entry: Entry) -> io::Result<()> {
+    println!(out; "segment {}", entry.segment)?;
+    println!(out; "sentence {}", entry.sentence)?;
+    say_meaning(out, entry.turn, turns::RIGHT)
 }
 
-fn line(out: Stdout, text: &[u8]) {
-    let _ = out.write_all(text);
+fn show_writing(out: &impl Print, buffer: &mut [u8]) -> io::Result<()> {
+    say_written(out, uleb128::write_u64(12857, buffer, Place(3)))?;
+    say_written(out, sleb128::write_i64(-2, buffer, Place(5)))?;
+    say_written(out, sleb128::write_i64(128, buffer, Place(7)))
 }
 
-fn say(out: Stdout, what: &[u8], number: u64) {
-    line(out, what);
-    let _ = out.print(number);
-    line(out, b"\n");
+fn show_reading(out: &impl Print, bytes: &[u8]) -> io::Result<()> {
+    read_number(out, bytes, Place(3))?;
+    read_turn(out, bytes, Place(5), turns::RIGHT)?;
+    read_turn(out, bytes, Place(5), turns::LEFT)?;
+    read_turn(out, bytes, Place(5), 2)?;
+    read_number(out, bytes, Place(6))?;
+    read_number(out, bytes, Place(9))
 }
 
-fn say_number(out: Stdout, v: u64) {
-    say(out, b"number ", v);
-}
-
-// A step by the unsigned rule has an unsigned value, one by the signed rule a signed one.
-fn say_value(out: Stdout, value: Value) {
-    match value {
-        Value::Unsigned(v) => say_number(out, v),
-        Value::Signed(quarters) => say_meaning(out, quarters, turns::RIGHT),
-    }
-}
-
-fn say_count(out: Stdout, count: Count) {
-    say(out, b"count ", count.0 as u64);
-}
-
-fn say_numbers(out: Stdout, count: Numbers) {
-    say(out, b"numbers ", count.0 as u64);
-}
-
-fn say_sentences(out: Stdout, count: Numbers) {
-    say(out, b"sentences ", count.0 as u64);
-}
-
-fn say_tail(out: Stdout, count: Count) {
-    say(out, b"tail ", count.0 as u64);
-}
-
-fn say_gap(out: Stdout, reason: Refusal, byte: Place) {
-    say(out, b"gap ", words::number(reason) as u64);
-    say_at(out, byte);
-}
-
-fn say_refused(out: Stdout, refusal: Refusal) {
-    say(out, b"refused ", words::number(refusal) as u64);
-}
-
-// The same, and the place of the byte that decided it.
-fn say_decided(out: Stdout, refusal: Refusal, byte: Place) {
-    say_refused(out, refusal);
-    say_at(out, byte);
-}
-
-fn say_at(out: Stdout, byte: Place) {
-    say(out, b"at ", byte.0 as u64);
-}
-
-// The same with the place where an entry ends.
-fn say_ended(out: Stdout, refusal: Refusal, end: Place) {
-    say_refused(out, refusal);
-    say(out, b"end ", end.0 as u64);
-}
-
-fn show_writing(out: Stdout, buffer: &mut [u8]) {
-    write_number(out, 12857, buffer, Place(3));
-    write_turn(out, -2, buffer, Place(5));
-    write_turn(out, 128, buffer, Place(7));
-}
-
-fn show_reading(out: Stdout, bytes: &[u8]) {
-    read_number(out, bytes, Place(3));
-    read_turn(out, bytes, Place(5), turns::RIGHT);
-    read_turn(out, bytes, Place(5), turns::LEFT);
-    read_turn(out, bytes, Place(5), 2);
-    read_number(out, bytes, Place(6));
-    read_number(out, bytes, Place(9));
-}
-
-fn show_numbers(out: Stdout) {
+fn show_numbers(out: &impl Print) -> io::Result<()> {
     let mut buffer = [0u8; 8];
-    show_writing(out, &mut buffer);
-    show_reading(out, &buffer);
+    show_writing(out, &mut buffer)?;
+    show_reading(out, &buffer)
 }
 
-fn show_block(out: Stdout, block: &[u8]) {
+fn show_block(out: &impl Print, block: &[u8]) -> io::Result<()> {
     let mut numbers = [0u64; 4];
-    step_through(out, block, Cursor { place: Place(0) });
-    step_from(out, block, Place(2));
-    read_all(out, block, &mut numbers);
+    step_through(out, block, Cursor { place: Place(0) })?;
+    step_from(out, block, Place(2))?;
+    read_all(out, block, &mut numbers)
 }
 
-fn show_settings(out: Stdout) {
+fn show_settings(out: &impl Print) -> io::Result<()> {
     let mut buffer = [0u8; 10];
-    let range = Range {
+    let range = Setting::Range(Range {
         lowest: 20.0,
         highest: 40.0,
-    };
-    write_setting(out, Setting::Range(range), &mut buffer, Place(0));
-    write_setting(out, Setting::Torque(-1.0), &mut buffer, Place(0));
-    write_setting(out, Setting::Angle(-90.0), &mut buffer, Place(9));
-    read_setting(out, &buffer, Place(0), 40.0);
-    read_setting(out, &buffer, Place(0), 40.5);
-    read_setting(out, &buffer, Place(9), 40.0);
+    });
+    let torque = Setting::Torque(-1.0);
+    let angle = Setting::Angle(-90.0);
+    say_written(out, slips::write_setting(range, &mut buffer, Place(0)))?;
+    say_written(out, slips::write_setting(torque, &mut buffer, Place(0)))?;
+    say_written(out, slips::write_setting(angle, &mut buffer, Place(9)))?;
+    read_setting(out, &buffer, Place(0), 40.0)?;
+    read_setting(out, &buffer, Place(0), 40.5)?;
+    read_setting(out, &buffer, Place(9), 40.0)
 }
 
 // A branch of two items: sentence 7, and a branch of one item, sentence 3. Without its last number it is no item.
-fn show_phrases(out: Stdout) {
+fn show_phrases(out: &impl Print) -> io::Result<()> {
     let phrase = [5u64, 14, 3, 6];
     let mut sentences = [0u64; 3];
-    read_phrase(out, &phrase, &mut sentences);
-    say_number(out, sentences[0]);
-    say_number(out, sentences[1]);
-    read_phrase(out, &phrase[0..3], &mut sentences);
+    read_phrase(out, &phrase, &mut sentences)?;
+    println!(out; "number {}", sentences[0])?;
+    println!(out; "number {}", sentences[1])?;
+    read_phrase(out, &phrase[..3], &mut sentences)
 }
 
 // An entry is written behind two others, the second of which has lost a number.
-fn show_entries(out: Stdout) {
+fn show_entries(out: &impl Print) -> io::Result<()> {
     let mut block = *b"\x80\x00\x07\x01\x02\x80\x00\x07\x02\x00\x00\x00\x00\x00";
     let entry = Entry {
         segment: 7,
         sentence: 3,
         turn: -1,
     };
-    write_entry(out, entry, &mut block, Place(9));
-    read_entries(out, &block);
+    say_written(out, entries::write_entry(entry, &mut block, Place(9)))?;
+    read_entries(out, &block)
+}
+
+fn show(out: &impl Print) -> io::Result<()> {
+    show_numbers(out)?;
+    show_block(out, b"\x05\x80\x00\x80\x01\x83")?;
+    show_block(out, b"\x05\x80\x01")?;
+    show_settings(out)?;
+    show_phrases(out)?;
+    show_entries(out)
 }
 
 fn main(rt: HostRuntime) {
-    let out = rt.stdout();
-    show_numbers(out);
-    show_block(out, b"\x05\x80\x00\x80\x01\x83");
-    show_block(out, b"\x05\x80\x01");
-    show_settings(out);
-    show_phrases(out);
-    show_entries(out);
+    // Where standard output can't be written, there is nowhere to say so.
+    let _ = show(&rt);
 }

@@ -1,2 +1,0 @@
-mod Following
-mod Notes

@@ -4,15 +4,16 @@
 // call the system only pass on what it answers: tools/check_code lets no test and no number stand in them.
 #![tactic(auto)]
 
-ghost use Rattle.std.specs.Prelude.{◌-◌, ◌≤◌, ◌<◌, ◌≡◌, length, MatchResult, pos, negsuc};
-ghost use Rattle.std.specs.Io.{ReadsAtMost};
+ghost use Rattle.std.specs.Prelude.{◌+◌, ◌≤◌, ◌≡◌, length, is_ok, IfOk};
 ghost use Rattle.texts.specs.Texts.{LaysText};
-ghost use Rattle.listing.specs.Program.{input_room, limit_note};
-ghost use Rattle.list.specs.Promise.{Moved, means_input, InputWithin, Follows, LaysTextOf, LaysNoteOf};
+ghost use Rattle.listing.specs.Program.{input_room, following, text_of, note_of, limit_note};
+ghost use Rattle.listing.specs.Promise.{Fronts};
+ghost use Rattle.list.specs.Promise.{means_read, means_input, means_next};
 
 use blocks::BLOCK_LIMIT;
 use listing::{TEXT_ROOM, lay_listing};
-use std::io::{Print, Read, Result, Stdin};
+use std::io::{self, Print, Read, Stdin};
+use std::ops::ControlFlow;
 use words::Count;
 
 // So much of the input is asked for: a byte more than a block may have, by which an input above the limit is seen to be so.
@@ -21,93 +22,45 @@ const INPUT_ROOM: usize = BLOCK_LIMIT + 1;
 // A buffer of so many bytes holds every note.
 const NOTE_ROOM: usize = 128;
 
-// The bytes at the front of the buffer are the input, or all that was asked for; or it can't be read.
-#[derive(Clone, Copy)]
-enum Input {
-    Bytes(Count),
-    Failed,
-}
-
-// What follows on a read: another one, behind so many bytes; or the input is known.
-#[derive(Clone, Copy)]
-enum Taken {
-    More(Count),
-    Ended(Input),
-}
-
-// What a read answered, as a number: below zero it failed, else so many bytes stand at the front of the part that it was lent.
-fn moved(answer: Result<usize>, part: &[u8]) -> isize
-    requires { ReadsAtMost answer part.now }
-    ensures within { Moved (length part.now) result }
-    ensures is { MatchResult answer (λ n. result ≡ pos n) (λ _. result ≡ negsuc 0) }
+// What follows where a read behind the first bytes of the input has answered: another read, behind so many bytes; or so many are all of
+// it, or all that was asked for. A read that moves no byte is the input's end.
+fn after_read(there: Count, read: io::Result<usize>) -> io::Result<ControlFlow<Count, Count>>
+    requires { IfOk read (λ n. there.0 + n ≤ input_room) }
+    ensures { means_next result ≡ following there.0 (means_read read) }
 {
-    match answer {
-        Ok(n) => n as isize,
-        Err(_) => -1,
+    let moved = read?;
+    let now = there.0 + moved;
+    if 0 < moved && now < INPUT_ROOM {
+        Ok(ControlFlow::Continue(Count(now)))
+    } else {
+        Ok(ControlFlow::Break(Count(now)))
     }
-}
-
-// Reads once into the part of the input that is still to come.
-fn read_some(mut from: Stdin, part: &mut [u8]) -> isize
-    ensures { Moved (length part.old) result }
-{
-    let answer = from.read(part);
-    moved(answer, part)
-}
-
-// What follows where a read behind the first bytes of the input has answered `got`: below zero it failed, and zero is the input's end.
-fn after_read(there: Count, got: isize) -> Taken
-    requires there_lt_input_room { there.0 < input_room }
-    requires moved { Moved (input_room - there.0) got }
-    ensures { Follows there.0 got result }
-{
-    if got < 0 {
-        return Taken::Ended(Input::Failed);
-    }
-    if got < 1 {
-        return Taken::Ended(Input::Bytes(there));
-    }
-    let n = there.0;
-    let more = got as usize;
-    let now = n + more;
-    if now < INPUT_ROOM {
-        return Taken::More(Count(now));
-    }
-    Taken::Ended(Input::Bytes(Count(now)))
 }
 
 // Reads the input to its end, or until a byte more is there than a block may have.
-fn take_in(from: Stdin, input: &mut [u8]) -> Input
+fn take_in(mut from: Stdin, input: &mut [u8]) -> io::Result<Count>
     requires { length input.old ≡ input_room }
-    ensures { InputWithin (means_input result) }
+    ensures { IfOk result (λ count. count.0 ≤ input_room) }
 {
-    let mut so_far = Count(0);
+    let mut there = Count(0);
     loop {
-        let n = so_far.0;
-        let got = read_some(from, &mut input[n..]);
-        match after_read(so_far, got) {
-            Taken::More(count) => {
-                so_far = count;
-            }
-            Taken::Ended(known) => {
-                return known;
-            }
+        let read = from.read(&mut input[there.0..]);
+        match after_read(there, read)? {
+            ControlFlow::Continue(count) => there = count,
+            ControlFlow::Break(count) => return Ok(count),
         }
     }
 }
 
 // What is written for the input: its listing, or nothing where it can't be read.
-fn lay_text(known: Input, input: &[u8], text: &mut [u8; TEXT_ROOM]) -> Count
+fn lay_text(known: io::Result<Count>, input: &[u8], text: &mut [u8; TEXT_ROOM]) -> Count
     requires input_len { length input.now ≡ input_room }
-    requires input_within { InputWithin (means_input known) }
-    ensures { LaysTextOf known input.now text.old result.0 text.new }
+    requires input_within { IfOk known (λ count. count.0 ≤ input_room) }
+    ensures { Fronts (text_of (means_input known) input.now) text.old result.0 text.new }
 {
     match known {
-        Input::Bytes(count) => {
-            let n = count.0;
-            lay_listing(&input[..n], text)
-        }
-        Input::Failed => Count(0),
+        Ok(Count(n)) => lay_listing(&input[..n], text),
+        Err(_) => Count(0),
     }
 }
 
@@ -121,50 +74,27 @@ fn lay_limit(note: &mut [u8]) -> Count
 }
 
 // What is said on standard error: what failed, or that the input is above the limit, or nothing.
-fn lay_note(known: Input, written: bool, note: &mut [u8; NOTE_ROOM]) -> Count
-    ensures { LaysNoteOf known written note.old result.0 note.new }
+fn lay_note(known: io::Result<Count>, written: io::Result<()>, note: &mut [u8; NOTE_ROOM]) -> Count
+    ensures { Fronts (note_of (means_input known) (is_ok written)) note.old result.0 note.new }
 {
     match known {
-        Input::Bytes(count) => {
-            if !written {
-                return texts::word(b"list: the listing can't be written\n", note, Count(0));
-            }
-            let n = count.0;
-            if BLOCK_LIMIT < n {
-                return lay_limit(note);
-            }
-            Count(0)
+        Err(_) => texts::word(b"list: the input can't be read\n", note, Count(0)),
+        Ok(_) if written.is_err() => {
+            texts::word(b"list: the listing can't be written\n", note, Count(0))
         }
-        Input::Failed => texts::word(b"list: the input can't be read\n", note, Count(0)),
+        Ok(count) if BLOCK_LIMIT < count.0 => lay_limit(note),
+        Ok(_) => Count(0),
     }
-}
-
-// Writes the first bytes of the buffer, and says whether all could be written.
-fn put(to: &impl Print, bytes: &[u8], count: Count) -> bool
-    requires { count.0 ≤ length bytes.now }
-{
-    let n = count.0;
-    to.write_all(&bytes[..n]).is_ok()
-}
-
-// Lists the input. The arrays come from `main`: to lend one as a slice where it is made costs the check a step for each of its
-// bytes.
-fn list_input(
-    rt: HostRuntime,
-    input: &mut [u8; INPUT_ROOM],
-    text: &mut [u8; TEXT_ROOM],
-    note: &mut [u8; NOTE_ROOM],
-) {
-    let known = take_in(rt.stdin(), input);
-    let listed = lay_text(known, input, text);
-    let written = put(&rt.stdout(), text, listed);
-    let noted = lay_note(known, written, note);
-    put(&rt.stderr(), note, noted);
 }
 
 fn main(rt: HostRuntime) {
     let mut input = [0u8; INPUT_ROOM];
     let mut text = [0u8; TEXT_ROOM];
     let mut note = [0u8; NOTE_ROOM];
-    list_input(rt, &mut input, &mut text, &mut note);
+    let known = take_in(rt.stdin(), &mut input);
+    let listed = lay_text(known, &input, &mut text);
+    let written = rt.stdout().write_all(&text[..listed.0]);
+    let noted = lay_note(known, written, &mut note);
+    // Where standard error can't be written, there is nowhere to say so.
+    let _ = rt.stderr().write_all(&note[..noted.0]);
 }

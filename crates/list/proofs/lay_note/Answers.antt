@@ -1,13 +1,22 @@
--- `list::lay_note` keeps what it promises: a law of `Notes` for each return.
-use Rattle.std.proofs.Common.{rules}
-use Rattle.list.proofs.Notes.{note_unwritten, note_above, note_failed}
+-- `list::lay_note` keeps what it promises: each note stands at the front, since the buffer has room for the longest.
+use Rattle.std.proofs.Common.{◌≤◌, length, length-append, lt-ltb, arith}
+use Rattle.texts.proofs.Decimals.{decimal_within_lem}
+use Rattle.blocks.specs.Block.{block_limit}
+use Rattle.listing.specs.Program.{limit_note}
+use Rattle.listing.proofs.Laid.{fronts}
 use Rattle.list.proofs.lay_note.Goals as goal
 
-pub returns-then-not-written : goal.returns-then-not-written
-returns-then-not-written c = search (rules, note_unwritten)
+limit_short : length limit_note ≤ 128
+limit_short = simp length-append (omega (arith, decimal_within_lem 9 block_limit (omega arith)))
 
-pub returns-then-n-gt-BLOCK_LIMIT : goal.returns-then-n-gt-BLOCK_LIMIT
-returns-then-n-gt-BLOCK_LIMIT c = search (rules, note_above)
+pub returns-in-Err : goal.returns-in-Err
+returns-in-Err c = rw c.in-Err.is (fronts (omega (arith, c.told-note)) c.word.ensures)
 
-pub returns-in-Failed : goal.returns-in-Failed
-returns-in-Failed c = search (rules, note_failed)
+pub returns-in-Ok : goal.returns-in-Ok
+returns-in-Ok c = rw c.in-Ok.is (rw c.if-is_err.ensures.negation (fronts (omega (arith, c.told-note)) c.word-in-Ok.ensures))
+
+pub returns-in-Ok-2 : goal.returns-in-Ok-2
+returns-in-Ok-2 c =
+    rw c.in-Ok-2.is
+    (rw c.if-is_err.ensures.negation
+    (rw (lt-ltb block_limit c.in-Ok-2.count.0 (omega arith)) (fronts (omega (arith, c.told-note, limit_short)) c.lay_limit.ensures)))

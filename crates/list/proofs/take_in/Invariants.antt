@@ -4,7 +4,7 @@ use Rattle.listing.specs.Program.{input_room}
 use Rattle.list.proofs.take_in.Given as goal
 
 abbrev pub invariant-loop-count : goal.invariant-loop-count
-invariant-loop-count l = l.so_far.0 < input_room
+invariant-loop-count l = l.there.0 < input_room
 
 abbrev pub decreases-loop-count : goal.decreases-loop-count
-decreases-loop-count l = input_room - l.so_far.0
+decreases-loop-count l = input_room - l.there.0
