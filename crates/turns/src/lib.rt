@@ -3,7 +3,7 @@
 #![tactic(auto)]
 
 ghost use Rattle.std.specs.Prelude.{◌≡◌};
-ghost use Rattle.turns.specs.Turns.{by_thread, means_meaning, Means};
+ghost use Rattle.turns.specs.Turns.{turn_of, swapped, Means};
 
 use words::Refusal;
 
@@ -12,7 +12,7 @@ pub const RIGHT: u8 = 0;
 
 pub const LEFT: u8 = 1;
 
-#[derive(Clone, Copy)]
+#[derive(Clone, Copy, Debug, PartialEq, Eq)]
 pub enum Turn {
     Tighten,
     Loosen,
@@ -26,28 +26,39 @@ pub enum Meaning {
     Refused(Refusal),
 }
 
-// What a turn means under the thread code, if it means right on a right-hand thread and left on a left-hand one.
-fn under(thread: u8, right: Turn, left: Turn) -> Meaning
-    ensures { means_meaning result ≡ by_thread thread right left }
-{
-    if LEFT < thread {
-        return Meaning::Refused(Refusal::Thread);
+impl Turn {
+    // What a number of quarter turns does on a right-hand thread.
+    fn of(quarters: i64) -> Turn
+        ensures { result ≡ turn_of quarters }
+    {
+        match quarters {
+            1.. => Turn::Tighten,
+            0 => Turn::Hold,
+            ..0 => Turn::Loosen,
+        }
     }
-    if thread == RIGHT {
-        return Meaning::Turn(right);
+
+    // What this turn on a right-hand thread is on a left-hand one.
+    fn swapped(self) -> Turn
+        ensures { result ≡ swapped self }
+    {
+        match self {
+            Turn::Tighten => Turn::Loosen,
+            Turn::Loosen => Turn::Tighten,
+            Turn::Hold => Turn::Hold,
+        }
     }
-    Meaning::Turn(left)
 }
 
 // What the turn means under the thread code. Refuses a code that is neither `RIGHT` nor `LEFT`, whatever the turn.
+#[tactic(auto, unfolding(crate::specs::Turns::by_thread))]
 pub fn means(quarters: i64, thread: u8) -> Meaning
     ensures { Means quarters thread result }
 {
-    if quarters < 0 {
-        return under(thread, Turn::Loosen, Turn::Tighten);
+    let turn = Turn::of(quarters);
+    match thread {
+        RIGHT => Meaning::Turn(turn),
+        LEFT => Meaning::Turn(turn.swapped()),
+        _ => Meaning::Refused(Refusal::Thread),
     }
-    if 0 < quarters {
-        return under(thread, Turn::Tighten, Turn::Loosen);
-    }
-    under(thread, Turn::Hold, Turn::Hold)
 }
