@@ -36,11 +36,9 @@ pub enum ReadSetting {
 }
 
 // Whether the torque is neither under the lowest nor over the highest. A not-a-number among the three gets no; the range needn't be good.
+#[tactic(auto, using(crate::proofs::Lies::lies_above, crate::proofs::Lies::lies_under))]
 pub fn lies_in_range(torque: f32, range: Range) -> bool
     ensures { LiesInRange torque range result }
 {
-    if range.lowest <= torque {
-        return torque <= range.highest;
-    }
-    false
+    range.lowest <= torque && torque <= range.highest
 }
