@@ -13,7 +13,7 @@ use lib.Ieee.{binary32, of_bits, lt, le}
 use Rattle.words.specs.Answer.{both}
 use Rattle.words.proofs.Cases.{both_false}
 use Rattle.slips.proofs.Order.{numbers_order}
-use Rattle.slips.proofs.GoodBits.{good_float}
+use Rattle.slips.proofs.GoodBits.{good_number, good_float}
 use Rattle.slips.specs.Good.{Measure, torque, good_word, good_words, is_in_order, good}
 use Rattle.slips.proofs.GoodWords.{first_good, others_good}
 
@@ -54,3 +54,5 @@ module _ (low high : ℕ) where
 
   pub highest_good : good (torque ∷ torque ∷ []) (low ∷ high ∷ []) ≡ true → good_word torque high ≡ true
   highest_good e = first_good torque [] high [] (others_good torque (torque ∷ []) low (high ∷ []) e)
+
+pub ruleset numbers = (good_number, lowest_good, highest_good)

@@ -108,3 +108,5 @@ module _ (s : List ℕ) (at : ℕ) where
 
     pub slip_read : {k : ℕ} {l : List ℕ} {r : ReadSetting} → front ≡ k ∷ l → AnswersSlip (k ∷ l) r → ReadsSetting s at r
     slip_read {k} {l} f a = record { answer = a.answer ∙ sym (kind_asked s at here k l (front_there ∙ f)); f32 = a.f32 }
+
+pub ruleset refusals = (slip_unknown, slip_short, word_bad, range_short, range_bad)

@@ -2,10 +2,9 @@
 --
 --   numbers_order   a number is at most another exactly where that is not below it
 --   at_most         a float is at most another exactly where both are numbers and the other is not below it
-use mathlib.Core.Bool.{Bool, true, false, not}
+use mathlib.Core.Bool.{true, false, not}
 use mathlib.Core.Logic.{◌↔◌}
 use mathlib.Core.Path.{◌≡◌, refl}
-use lib.Dec.{T}
 use lib.Ieee.{Float, nan, inf, fin, is_nan, lt, le}
 use lib.Ieee.Bits.{is_true}
 use Rattle.std.specs.Float.{NotNan}

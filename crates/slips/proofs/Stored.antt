@@ -17,7 +17,6 @@ use lib.ListN.{length, set, get_or, take, drop, length-drop, drop_of_length-le}
 use lib.Seq.{sets, sets-eq, drop-cons, drop-drop}
 use Rattle.std.proofs.Common.{append_assoc}
 use Rattle.words.specs.Lays.{Lays}
-use Rattle.words.specs.declared.Count.{Count}
 use Rattle.words.specs.declared.Refusal.TheVariants as Why
 use Rattle.words.specs.declared.Written.{Written}
 use Rattle.words.specs.declared.Written.TheVariants as W
@@ -27,6 +26,7 @@ use Rattle.slips.specs.Slip.{measures, spread, body, form}
 use Rattle.slips.specs.Promise.{means_setting, WritesSetting}
 use Rattle.slips.specs.Inner.{WritesWords}
 use Rattle.slips.specs.declared.Setting.{Setting}
+use Rattle.slips.proofs.GoodRange.{alone, nothing_good}
 use Rattle.slips.proofs.Spelled.{length_body}
 
 part_there : (bytes s : List ℕ) (at : ℕ) {k : ℕ} → k ≡ length bytes → at + length bytes ≤ length s → put_mid at k s bytes ≡ sets s at bytes
@@ -65,3 +65,5 @@ pub words_written : (v : Setting) (s : List ℕ) (at : ℕ) {k : ℕ} {ws : List
 words_written v s at {k} means known t p =
     let n = lt-ltb k 4 known in
     record { answer = p.answer ∙ rw (means, n, t); leaves = p.leaves ∙ rw (means, n, t) }
+
+pub ruleset settings = (words_written, alone, nothing_good)

@@ -17,6 +17,7 @@ pub(crate) fn good_angle(bits: u32) -> bool
 }
 
 // Whether these are a good torque's. One test does: with the sign's bit they are above an infinity's.
+#[tactic(auto, using(crate::proofs::GoodBits::torque_good))]
 pub(crate) fn good_torque(bits: u32) -> bool
     ensures { result ≡ good_word torque bits }
 {

@@ -12,6 +12,7 @@ use crate::{Range, ReadSetting, Setting};
 use words::{Count, Place, Refusal};
 
 // The word at the front of a body and what stands behind it; 1 where the body ends before.
+#[tactic(auto, using(crate::proofs::WordRead::word_little))]
 fn word(body: &[u8]) -> Result<(u32, &[u8]), Refusal>
     ensures { MatchResult result (λ p. (4 ≤ length body.now) × (p.0 ≡ little (take 4 body.now)) × (p.1.now ≡ drop 4 body.now)) (λ why. (why ≡ End) × (length body.now < 4)) }
 {
@@ -24,10 +25,15 @@ fn float(bits: u32, good: bool) -> Result<f32, Refusal>
     requires { good ≡ true → NotNanBits binary32 bits }
     ensures { MatchResult result (λ x. (good ≡ true) × (x ≡ of_bits binary32 bits)) (λ why. (why ≡ Slip) × (good ≡ false)) }
 {
-    if good { Ok(f32::from_bits(bits)) } else { Err(Refusal::Slip) }
+    if good {
+        Ok(f32::from_bits(bits))
+    } else {
+        Err(Refusal::Slip)
+    }
 }
 
 // The setting of this kind and its slip's count of bytes; else 1 (a short body) or 11 (an unknown kind, or a setting that is not good).
+#[tactic(auto, using(crate::proofs::Judged::refusals, crate::proofs::GoodRange::numbers))]
 fn read_body(kind: u8, body: &[u8]) -> Result<(Setting, Count), Refusal>
     ensures { AnswersSlip (kind ∷ body.now) (answered result) }
 {
@@ -56,6 +62,7 @@ fn read_body(kind: u8, body: &[u8]) -> Result<(Setting, Count), Refusal>
 }
 
 // Reads the setting at the place; else 4 (past the end), 1 (no byte, or a short body) or 11 (an unknown kind, or a setting that is not good).
+#[tactic(auto, using(crate::proofs::Judged::slip_past, crate::proofs::Judged::slip_none))]
 pub fn read_setting(bytes: &[u8], place: Place) -> ReadSetting
     ensures { ReadsSetting bytes.now place.0 result }
 {

@@ -39,6 +39,7 @@ fn write(kind: u8, words: &[u32], good: bool, buffer: &mut [u8], place: Place) -
 }
 
 // Writes the setting's slip at the place and answers its count of bytes; else 11 (a setting that is not good) or 5, and no byte is changed.
+#[tactic(auto, using(crate::proofs::Stored::settings))]
 pub fn write_setting(setting: Setting, buffer: &mut [u8], place: Place) -> Written
     ensures { WritesSetting setting buffer.old place.0 result buffer.new }
 {

@@ -7,6 +7,6 @@ use Rattle.slips.proofs.good.good_range.Goals.{then-good_torque, else-good_torqu
 pub returns-else-good_torque-2 : goal.returns-else-good_torque-2
 returns-else-good_torque-2 c =
     elim c.if-good_torque.branch [
-      then-good_torque w ↦ c.if-good_torque-2.false ∙ highest_bad _ _ (cc)
-    | else-good_torque w ↦ c.if-good_torque-2.false ∙ lowest_bad _ _ (cc)
+      | then-good_torque w ↦ c.if-good_torque-2.false ∙ highest_bad _ _ (cc)
+      | else-good_torque w ↦ c.if-good_torque-2.false ∙ lowest_bad _ _ (cc)
     ]
