@@ -2,9 +2,9 @@
 --
 --   nothing_good                  a body of no measure is good
 --   alone                         a body of one measure is good exactly where its word is
---   range_above, range_in_order   a range of two good torques, the lowest above the highest, and not
---   lowest_bad, highest_bad       and one with a torque that is not good
---   lowest_good, highest_good     both torques of a good range are good
+--   range_ordered                 a range of two good torques is good exactly where the lowest is at most the highest
+--   lowest_bad, highest_bad       and one with a torque that is not good isn't
+--   lowest_good, highest_good     both torques of a good range are good; `numbers`: so their bits are those of numbers
 use Prim.Native.Nat.{ℕ}
 use mathlib.Core.Bool.{Bool, true, false, not}
 use mathlib.Core.List.{[], ◌∷◌}

@@ -2,7 +2,10 @@
 --
 --   slip_unknown          a kind that there isn't
 --   slip_short            a short body
---   slip_good, slip_bad   a whole one: the setting where its words are good, and else 11
+--   slip_good, slip_bad   a whole one: the setting where its words are good, and else 11; `word_good`, `word_bad`: one of one word,
+--                         `range_short`, `range_good`, `range_bad`: one of two; `refusals`: the laws that refuse
+--   float_bits            the float of good bits has those,
+--   float_fits            and is an f32
 --   slip_past, slip_none  past the end, and no byte from the start
 --   slip_read             an answer to the bytes from a place on is one to a slip there
 use Prim.Native.Nat.{ℕ, ◌+◌, ◌≤◌, ◌<◌}

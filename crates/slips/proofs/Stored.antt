@@ -1,26 +1,26 @@
 -- The writer's stores, and its returns for every kind.
 --
---   kind_stored      with the kind stored, the body is left,
---   word_fits        in which each word has room,
---   word_stored      and with one stored, those behind it are
---   all_stored       with none left, the slip is laid down
---   write_good, write_refused   the answer where the setting is good, and where it isn't
---   words_written    a setting is written as its kind and its words are
+--   part_there      what was copied into a part of a buffer is stored there
+--   word_fits       each word that is left has room; `fitting`: so it has by the test for room
+--   word_stored     with one stored, those behind it are left
+--   all_stored      with none left, the slip is laid down
+--   write_good      what is laid down is the answer where the setting is good
+--   words_written   a setting is written as its kind and its words are; `settings`: so each is by the test of its words
 use Prim.Native.Nat.{ℕ, suc, ◌+◌, ◌-◌, ◌*◌, ◌≤◌, ◌<◌}
-use mathlib.Core.Bool.{Bool, true, false}
-use mathlib.Core.List.{List, [], ◌∷◌, ◌++◌}
+use mathlib.Core.Bool.{Bool, true}
+use mathlib.Core.List.{List, ◌++◌}
 use mathlib.Core.Path.{◌≡◌, refl, sym, ap, ◌∙◌}
 use native.Mathlib.Omega.{arith}
 use borrow.Author.Tests.{lt-ltb}
 use borrow.Rule.Slice.PartMut.{put_mid}
-use lib.ListN.{length, set, get_or, take, drop, length-drop, drop_of_length-le}
+use lib.ListN.{length, get_or, take, drop, length-drop, drop_of_length-le}
 use lib.Seq.{sets, sets-eq, drop-cons, drop-drop}
 use Rattle.std.proofs.Common.{append_assoc}
 use Rattle.words.specs.Lays.{Lays}
-use Rattle.words.specs.declared.Refusal.TheVariants as Why
 use Rattle.words.specs.declared.Written.{Written}
 use Rattle.words.specs.declared.Written.TheVariants as W
-use Rattle.words.proofs.LaysInParts.{Laying, nothing_laid, part_laid, all_laid, puts_lays}
+use Rattle.words.proofs.LaysInParts.{Laying, part_laid, all_laid, puts_lays}
+use Rattle.words.proofs.Lays.{room_there}
 use Rattle.slips.specs.Good.{good}
 use Rattle.slips.specs.Slip.{measures, spread, body, form}
 use Rattle.slips.specs.Promise.{means_setting, WritesSetting}
@@ -31,12 +31,9 @@ use Rattle.slips.proofs.Spelled.{length_body}
 
 part_there : (bytes s : List ℕ) (at : ℕ) {k : ℕ} → k ≡ length bytes → at + length bytes ≤ length s → put_mid at k s bytes ≡ sets s at bytes
 part_there bytes s at c h =
-    rw c (ap (λ (x : List ℕ). take at s ++ (bytes ++ x)) (drop-drop (length bytes) at s) ∙ sym (append_assoc (take at s) bytes (drop (at + length bytes) s)) ∙ sym (sets-eq bytes s at h))
+    rw (c, drop-drop (length bytes) at s) (sym (append_assoc (take at s) bytes (drop (at + length bytes) s)) ∙ sym (sets-eq bytes s at h))
 
 module _ (k : ℕ) (ws s : List ℕ) (at : ℕ) where
-  pub kind_stored : Laying (form (k, ws)) s at (set s at k) (at + 1) (body ws)
-  kind_stored = part_laid (nothing_laid (form (k, ws)) s at) (k ∷ []) (body ws) refl refl refl
-
   module _ {out : List ℕ} {to : ℕ} {i : ℕ} (l : Laying (form (k, ws)) s at out to (body (drop i ws))) where
     pub word_fits : at + (1 + 4 * length ws) ≤ length s → i < length ws → to + 4 ≤ length out
     word_fits room h = omega (arith, l.kept, l.ends, length_body ws, length_body (drop i ws), length-drop i ws)
@@ -57,9 +54,6 @@ module _ {k : ℕ} {ws : List ℕ} {good : Bool} {s : List ℕ} {at : ℕ} where
   pub write_good : {r : Written} {out : List ℕ} → good ≡ true → Lays (form (k, ws)) s at r out → WritesWords k ws good s at r out
   write_good e l = record { answer = rw e l.answer; leaves = rw e l.leaves }
 
-  pub write_refused : good ≡ false → WritesWords k ws good s at (W.Refused Why.Slip) s
-  write_refused e = record { answer = rw e; leaves = rw e }
-
 pub words_written : (v : Setting) (s : List ℕ) (at : ℕ) {k : ℕ} {ws : List ℕ} {tested : Bool} {r : Written} {out : List ℕ}
     → means_setting v ≡ (k, ws) → k < 4 → tested ≡ good (measures k) ws → WritesWords k ws tested s at r out → WritesSetting v s at r out
 words_written v s at {k} means known t p =
@@ -67,3 +61,5 @@ words_written v s at {k} means known t p =
     record { answer = p.answer ∙ rw (means, n, t); leaves = p.leaves ∙ rw (means, n, t) }
 
 pub ruleset settings = (words_written, alone, nothing_good)
+
+pub ruleset fitting = (word_fits, room_there)

@@ -18,6 +18,7 @@ fn bits_of(x: f32) -> u32
 }
 
 // Writes a setting of this kind and these words, if it is good; else 11. Where there is no room, 5, and no byte is changed.
+#[tactic(auto, using(crate::proofs::Stored::fitting))]
 fn write(kind: u8, words: &[u32], good: bool, buffer: &mut [u8], place: Place) -> Written
     ensures { WritesWords kind words.now good buffer.old place.0 result buffer.new }
 {

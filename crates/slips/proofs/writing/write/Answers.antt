@@ -10,14 +10,6 @@ pub returns-then-not-has_room : goal.returns-then-not-has_room
 returns-then-not-has_room c =
     write_good c.if-not-good.false (room_refused _ _ _ c.has_room.ensures (omega (arith, length_body c.args.words.now)) c.if-not-has_room.true)
 
-pub overflow_add-at-in-loop-word : goal.overflow_add-at-in-loop-word
-overflow_add-at-in-loop-word c =
-    let h = word_fits _ _ _ _ c.loop-word.invariant (room_there c.has_room.ensures c.if-not-has_room.false) c.loop-word-test.true in omega arith
-
-pub slice_bounds-copy_from_slice-end : goal.slice_bounds-copy_from_slice-end
-slice_bounds-copy_from_slice-end c =
-    word_fits _ _ _ _ c.loop-word.invariant (room_there c.has_room.ensures c.if-not-has_room.false) c.loop-word-test.true
-
 pub loop-word-preserved : goal.loop-word-preserved
 loop-word-preserved c =
     let h = word_fits _ _ _ _ c.loop-word.invariant (room_there c.has_room.ensures c.if-not-has_room.false) c.loop-word-test.true in
