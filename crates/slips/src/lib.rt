@@ -13,14 +13,14 @@ use words::{Count, Refusal};
 pub use writing::write_setting;
 
 // A lowest and a highest torque.
-#[derive(Clone, Copy)]
+#[derive(Clone, Copy, Debug, PartialEq)]
 pub struct Range {
     pub lowest: f32,
     pub highest: f32,
 }
 
 // What a workshop sets.
-#[derive(Clone, Copy)]
+#[derive(Clone, Copy, Debug, PartialEq)]
 pub enum Setting {
     Nothing,
     Torque(f32),
