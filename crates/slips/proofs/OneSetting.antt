@@ -16,11 +16,9 @@ use lib.Dec.{ltb}
 use lib.Ieee.{binary32, of_bits}
 use lib.Ieee.Bits.{of_bits-to_bits, of_bits-fits}
 use lib.ListN.{get_or}
-use Rattle.words.specs.Answer.{Answer, gives, refused, because}
+use Rattle.words.specs.Answer.{Answer, gives, refused, because, Written}
 use Rattle.words.specs.declared.Refusal.{Refusal}
 use Rattle.words.specs.declared.Refusal.TheVariants.{End, Place, Slip}
-use Rattle.words.specs.declared.Written.{Written}
-use Rattle.words.specs.declared.Written.TheVariants as W
 use Rattle.words.proofs.Cases.{by_test, both_true}
 use Rattle.words.proofs.Lays.{some_lays}
 use Rattle.words.proofs.OneMeaning.{back}
@@ -30,11 +28,11 @@ use Rattle.slips.specs.Slip.{measures, form, good_setting}
 use Rattle.slips.specs.Promise.{means_setting, F32, means_read_setting, OfF32, ReadsSetting, WritesSetting}
 use Rattle.slips.specs.declared.Setting.{Setting}
 use Rattle.slips.specs.declared.Setting.TheVariants as S
-use Rattle.slips.specs.declared.ReadSetting.{ReadSetting}
-use Rattle.slips.specs.declared.ReadSetting.TheVariants as R
 use Rattle.slips.proofs.ByTests.{by_tests}
 use Rattle.slips.proofs.GoodBits.{good_back}
 use Rattle.slips.proofs.GoodWords.{EachGood, none, more, each_good}
+use Rattle.std.specs.Prelude.{Result, Ok, Err}
+use Rattle.words.specs.declared.Count.{Count}
 
 abbrev pub setting_of : ℕ × List ℕ → Setting
 setting_of (zero, ws) = S.Nothing
@@ -66,29 +64,29 @@ floats_back (S.Torque x) f = rw (of_bits-to_bits binary32 x f)
 floats_back (S.Angle x) f = rw (of_bits-to_bits binary32 x f)
 floats_back (S.Range r) f = rw (of_bits-to_bits binary32 r.lowest f.0, of_bits-to_bits binary32 r.highest f.1)
 
-abbrev read_of : Answer ((ℕ × List ℕ) × ℕ) → ReadSetting
-read_of = back (λ (x : (ℕ × List ℕ) × ℕ). R.Setting (setting_of x.0) (record { 0 = x.1 })) R.Refused
+abbrev read_of : Answer ((ℕ × List ℕ) × ℕ) → Result (Setting × Count) Refusal
+read_of = back (λ (x : (ℕ × List ℕ) × ℕ). Ok ((setting_of x.0), (record { 0 = x.1 }))) Err
 
-read_back : (r : ReadSetting) → OfF32 r → read_of (means_read_setting r) ≡ r
-read_back (R.Setting v n) f = ap (λ (x : Setting). R.Setting x n) (floats_back v f)
-read_back (R.Refused why) f = ap R.Refused (refusal_back why)
+read_back : (r : Result (Setting × Count) Refusal) → OfF32 r → read_of (means_read_setting r) ≡ r
+read_back (Ok (v, n)) f = ap (λ (x : Setting). Ok (x, n)) (floats_back v f)
+read_back (Err why) f = ap Err (refusal_back why)
 
-pub same_read : (r r' : ReadSetting) → OfF32 r → OfF32 r' → means_read_setting r ≡ means_read_setting r' → r ≡ r'
+pub same_read : (r r' : Result (Setting × Count) Refusal) → OfF32 r → OfF32 r' → means_read_setting r ≡ means_read_setting r' → r ≡ r'
 same_read r r' f f' e = sym (read_back r f) ∙ ap read_of e ∙ read_back r' f'
 
 -- an answer of the reader that means a
 abbrev Found : Answer ((ℕ × List ℕ) × ℕ) → Type 0
-Found a = (r : ReadSetting) × (means_read_setting r ≡ a) × OfF32 r
+Found a = (r : Result (Setting × Count) Refusal) × (means_read_setting r ≡ a) × OfF32 r
 
 refusal_found : (why : Refusal) → Found (refused (because why))
-refusal_found why = (R.Refused why, refl, tt)
+refusal_found why = (Err why, refl, tt)
 
 good_found : (v : ℕ × List ℕ) (n : ℕ) → v.0 ≤ 3 → good (measures v.0) v.1 ≡ true → Found (gives (v, n))
 good_found v n h e =
     let g : good_setting v ≡ true = rw (lt-ltb v.0 4 (omega arith)) e in
-    (R.Setting (setting_of v) (record { 0 = n }), ap (λ (x : ℕ × List ℕ). gives (x, n)) (setting_back v g), setting_f32 v)
+    (Ok ((setting_of v), (record { 0 = n })), ap (λ (x : ℕ × List ℕ). gives (x, n)) (setting_back v g), setting_f32 v)
 
-pub some_setting : (s : List ℕ) (at : ℕ) → (r : ReadSetting) × ReadsSetting s at r
+pub some_setting : (s : List ℕ) (at : ℕ) → (r : Result (Setting × Count) Refusal) × ReadsSetting s at r
 some_setting s at =
     let found =
     by_tests Found s at (λ h. refusal_found Place) (λ h. refusal_found End) (λ k l e h. refusal_found Slip) (λ k l e h i. refusal_found End)
@@ -99,4 +97,4 @@ pub some_written : (v : Setting) (s : List ℕ) (at : ℕ) → (r : Written) × 
 some_written v s at =
     by_test (good_setting (means_setting v))
     (λ e. let l = some_lays (form (means_setting v)) s at in (l.0, l.1, record { answer = rw e l.2.answer; leaves = rw e l.2.leaves }))
-    (λ e. (W.Refused Slip, s, record { answer = rw e; leaves = rw e }))
+    (λ e. (Err Slip, s, record { answer = rw e; leaves = rw e }))

@@ -15,10 +15,8 @@ use borrow.Author.Tests.{lt-ltb}
 use borrow.Rule.Slice.PartMut.{put_mid}
 use lib.ListN.{length, get_or, take, drop, length-drop, drop_of_length-le}
 use lib.Seq.{sets, sets-eq, drop-cons, drop-drop}
-use Rattle.std.proofs.Common.{append_assoc}
+use Rattle.std.proofs.Common.{append_assoc, Ok}
 use Rattle.words.specs.Lays.{Lays}
-use Rattle.words.specs.declared.Written.{Written}
-use Rattle.words.specs.declared.Written.TheVariants as W
 use Rattle.words.proofs.LaysInParts.{Laying, part_laid, all_laid, puts_lays}
 use Rattle.words.proofs.Lays.{room_there}
 use Rattle.slips.specs.Good.{good}
@@ -28,6 +26,7 @@ use Rattle.slips.specs.Inner.{WritesWords}
 use Rattle.slips.specs.declared.Setting.{Setting}
 use Rattle.slips.proofs.GoodRange.{alone, nothing_good}
 use Rattle.slips.proofs.Spelled.{length_body}
+use Rattle.words.specs.Answer.{Written}
 
 part_there : (bytes s : List ℕ) (at : ℕ) {k : ℕ} → k ≡ length bytes → at + length bytes ≤ length s → put_mid at k s bytes ≡ sets s at bytes
 part_there bytes s at c h =
@@ -46,7 +45,7 @@ module _ (k : ℕ) (ws s : List ℕ) (at : ℕ) where
         (ap body (drop-cons ws i 0 h) ∙ ap (λ (k : ℕ). spread 4 (get_or ws i 0) ++ body (drop k ws)) n)
         (f ∙ rw e (part_there (spread 4 (get_or ws i 0)) out to (omega arith) room)) refl
 
-    pub all_stored : at + (1 + 4 * length ws) ≤ length s → length ws ≤ i → Lays (form (k, ws)) s at (W.Bytes (record { 0 = 1 + 4 * length ws })) out
+    pub all_stored : at + (1 + 4 * length ws) ≤ length s → length ws ≤ i → Lays (form (k, ws)) s at (Ok (record { 0 = 1 + 4 * length ws })) out
     all_stored room h =
         puts_lays _ (omega (arith, length_body ws)) (omega (arith, length_body ws)) (all_laid l (ap body (drop_of_length-le ws h)))
 

@@ -5,22 +5,19 @@
 --   WritesWords          writing a setting of kind k and these words at the place of s answers r and leaves out: 11 unless it is good, then 5
 use Rattle.std.specs.Prelude.{ℕ, Bool, List, ◌≡◌, length, Result}
 use Rattle.std.specs.declared.result.Result.TheVariants.{Ok, Err}
-use Rattle.words.specs.Answer.{pick, refused, by, means_written}
+use Rattle.words.specs.Answer.{pick, refused, by, means_written, Written}
 use Rattle.words.specs.Lays.{writing, laid}
 use Rattle.words.specs.declared.Count.{Count}
 use Rattle.words.specs.declared.Refusal.{Refusal}
-use Rattle.words.specs.declared.Written.{Written}
 use Rattle.slips.specs.Slip.{form, slip}
 use Rattle.slips.specs.Promise.{means_read_setting, OfF32}
 use Rattle.slips.specs.declared.Setting.{Setting}
-use Rattle.slips.specs.declared.ReadSetting.{ReadSetting}
-use Rattle.slips.specs.declared.ReadSetting.TheVariants as R
 
-abbrev pub answered : Result (Setting × Count) Refusal → ReadSetting
-answered (Ok p) = R.Setting p.0 p.1
-answered (Err why) = R.Refused why
+abbrev pub answered : Result (Setting × Count) Refusal → Result (Setting × Count) Refusal
+answered (Ok p) = Ok (p.0, p.1)
+answered (Err why) = Err why
 
-pub record AnswersSlip (l : List ℕ) (r : ReadSetting) : Type 0 where
+pub record AnswersSlip (l : List ℕ) (r : Result (Setting × Count) Refusal) : Type 0 where
   pub answer : means_read_setting r ≡ slip l
   pub f32 : OfF32 r
 

@@ -7,18 +7,17 @@
 --   WritesSetting        writing the setting v at the place of s answers r and leaves out: 11 unless it is good, then 5
 --   Within t range       the torque t is neither under the lowest nor over the highest, and none of the three is a not-a-number
 --   LiesInRange          whether t lies in the range is answered by r
-use Rattle.std.specs.Prelude.{ℕ, Bool, true, false, List, [], ◌∷◌, ◌↔◌, ◌≡◌, T, Float, length}
+use Rattle.std.specs.Prelude.{ℕ, Bool, true, false, List, [], ◌∷◌, ◌↔◌, ◌≡◌, T, Float, length, Result, Ok, Err}
 use Rattle.std.specs.Float.{nan, binary32}
 use Rattle.std.specs.Float.Ieee.{to_bits, lt, fits}
-use Rattle.words.specs.Answer.{pick, Answer, gives, refused, by, because, means_written}
+use Rattle.words.specs.Answer.{pick, Answer, gives, refused, by, because, means_written, Written}
 use Rattle.words.specs.Lays.{writing, laid}
-use Rattle.words.specs.declared.Written.{Written}
 use Rattle.slips.specs.Slip.{form, good_setting, slip_at}
 use Rattle.slips.specs.declared.Range.{Range}
 use Rattle.slips.specs.declared.Setting.{Setting}
 use Rattle.slips.specs.declared.Setting.TheVariants as S
-use Rattle.slips.specs.declared.ReadSetting.{ReadSetting}
-use Rattle.slips.specs.declared.ReadSetting.TheVariants as R
+use Rattle.words.specs.declared.Count.{Count}
+use Rattle.words.specs.declared.Refusal.{Refusal}
 
 abbrev pub means_setting : Setting → ℕ × List ℕ
 means_setting S.Nothing = (0, [])
@@ -32,15 +31,15 @@ F32 (S.Torque x) = T (fits binary32 x)
 F32 (S.Angle x) = T (fits binary32 x)
 F32 (S.Range r) = T (fits binary32 r.lowest) × T (fits binary32 r.highest)
 
-abbrev pub means_read_setting : ReadSetting → Answer ((ℕ × List ℕ) × ℕ)
-means_read_setting (R.Setting v n) = gives (means_setting v, n.0)
-means_read_setting (R.Refused why) = refused (because why)
+abbrev pub means_read_setting : Result (Setting × Count) Refusal → Answer ((ℕ × List ℕ) × ℕ)
+means_read_setting (Ok (v, n)) = gives (means_setting v, n.0)
+means_read_setting (Err why) = refused (because why)
 
-abbrev pub OfF32 : ReadSetting → Type 0
-OfF32 (R.Setting v n) = F32 v
-OfF32 (R.Refused why) = Unit
+abbrev pub OfF32 : Result (Setting × Count) Refusal → Type 0
+OfF32 (Ok (v, n)) = F32 v
+OfF32 (Err why) = Unit
 
-pub record ReadsSetting (s : List ℕ) (at : ℕ) (r : ReadSetting) : Type 0 where
+pub record ReadsSetting (s : List ℕ) (at : ℕ) (r : Result (Setting × Count) Refusal) : Type 0 where
   pub answer : means_read_setting r ≡ slip_at s at
   pub f32 : OfF32 r
 

@@ -63,17 +63,17 @@ fn read_body(kind: u8, body: &[u8]) -> Result<(Setting, Count), Refusal>
 
 // Reads the setting at the place; else 4 (past the end), 1 (no byte, or a short body) or 11 (an unknown kind, or a setting that is not good).
 #[tactic(auto, using(crate::proofs::Judged::slip_past, crate::proofs::Judged::slip_none))]
-pub fn read_setting(bytes: &[u8], place: Place) -> ReadSetting
+pub fn read_setting(bytes: &[u8], place: Place) -> Result<(Setting, Count), Refusal>
     ensures { ReadsSetting bytes.now place.0 result }
 {
     let Some(slip) = bytes.get(place.0..) else {
-        return ReadSetting::Refused(Refusal::Place);
+        return Err(Refusal::Place);
     };
     let Some((kind, body)) = slip.split_first() else {
-        return ReadSetting::Refused(Refusal::End);
+        return Err(Refusal::End);
     };
     match read_body(*kind, body) {
-        Ok((setting, count)) => ReadSetting::Setting(setting, count),
-        Err(refusal) => ReadSetting::Refused(refusal),
+        Ok((setting, count)) => Ok((setting, count)),
+        Err(refusal) => Err(refusal),
     }
 }

@@ -19,15 +19,15 @@ fn bits_of(x: f32) -> u32
 
 // Writes a setting of this kind and these words, if it is good; else 11. Where there is no room, 5, and no byte is changed.
 #[tactic(auto, using(crate::proofs::Stored::fitting))]
-fn write(kind: u8, words: &[u32], good: bool, buffer: &mut [u8], place: Place) -> Written
+fn write(kind: u8, words: &[u32], good: bool, buffer: &mut [u8], place: Place) -> Result<Count, Refusal>
     ensures { WritesWords kind words.now good buffer.old place.0 result buffer.new }
 {
     if !good {
-        return Written::Refused(Refusal::Slip);
+        return Err(Refusal::Slip);
     }
     let count = Count(1 + 4 * words.len());
     if !has_room(buffer.len(), place, count) {
-        return Written::Refused(Refusal::NoRoom);
+        return Err(Refusal::NoRoom);
     }
     let mut at = place.0;
     buffer[at] = kind;
@@ -36,12 +36,12 @@ fn write(kind: u8, words: &[u32], good: bool, buffer: &mut [u8], place: Place) -
         buffer[at..at + 4].copy_from_slice(&word.to_le_bytes());
         at += 4;
     }
-    Written::Bytes(count)
+    Ok(count)
 }
 
 // Writes the setting's slip at the place and answers its count of bytes; else 11 (a setting that is not good) or 5, and no byte is changed.
 #[tactic(auto, using(crate::proofs::Stored::settings))]
-pub fn write_setting(setting: Setting, buffer: &mut [u8], place: Place) -> Written
+pub fn write_setting(setting: Setting, buffer: &mut [u8], place: Place) -> Result<Count, Refusal>
     ensures { WritesSetting setting buffer.old place.0 result buffer.new }
 {
     match setting {

@@ -6,12 +6,11 @@
 --   turn_under code v           what a turn means under a thread code
 --   means_meaning               what the answer of `means` says
 --   Means v code r              what `means` promises
-use Rattle.std.specs.Prelude.{ℕ, zero, suc, ◌≡◌, ℤ, pos, negsuc}
+use Rattle.std.specs.Prelude.{ℕ, zero, suc, ◌≡◌, ℤ, pos, negsuc, Result, Ok, Err}
 use Rattle.words.specs.Answer.{Answer, gives, refused, by, because}
 use Rattle.turns.specs.declared.Turn.{Turn}
 use Rattle.turns.specs.declared.Turn.TheVariants.{Tighten, Loosen, Hold}
-use Rattle.turns.specs.declared.Meaning.{Meaning}
-use Rattle.turns.specs.declared.Meaning.TheVariants as M
+use Rattle.words.specs.declared.Refusal.{Refusal}
 
 abbrev pub turn_of : ℤ → Turn
 turn_of (pos zero) = Hold
@@ -31,9 +30,9 @@ by_thread (suc (suc n)) right left = refused (by 9)
 abbrev pub turn_under : ℕ → ℤ → Answer Turn
 turn_under code v = by_thread code (turn_of v) (swapped (turn_of v))
 
-abbrev pub means_meaning : Meaning → Answer Turn
-means_meaning (M.Turn turn) = gives turn
-means_meaning (M.Refused why) = refused (because why)
+abbrev pub means_meaning : Result Turn Refusal → Answer Turn
+means_meaning (Ok turn) = gives turn
+means_meaning (Err why) = refused (because why)
 
-pub record Means (v : ℤ) (code : ℕ) (r : Meaning) : Type 0 where
+pub record Means (v : ℤ) (code : ℕ) (r : Result Turn Refusal) : Type 0 where
   pub is : means_meaning r ≡ turn_under code v

@@ -52,13 +52,13 @@ impl Turn {
 
 // What the turn means under the thread code. Refuses a code that is neither `RIGHT` nor `LEFT`, whatever the turn.
 #[tactic(auto, unfolding(crate::specs::Turns::by_thread))]
-pub fn means(quarters: i64, thread: u8) -> Meaning
+pub fn means(quarters: i64, thread: u8) -> Result<Turn, Refusal>
     ensures { Means quarters thread result }
 {
     let turn = Turn::of(quarters);
     match thread {
-        RIGHT => Meaning::Turn(turn),
-        LEFT => Meaning::Turn(turn.swapped()),
-        _ => Meaning::Refused(Refusal::Thread),
+        RIGHT => Ok(turn),
+        LEFT => Ok(turn.swapped()),
+        _ => Err(Refusal::Thread),
     }
 }
