@@ -3,10 +3,11 @@
 --   GoodParts m w                             32 bits, not minus zero, not below zero, and below an infinity's without the sign
 --   good_parts, parts_good                    the test holds exactly where these do
 --   minus_zero_bad, angle_good, torque_good   the tests of an angle and of a torque, as the code makes them
---   infinite_number                           bits up to an infinity's are no not-a-number's; `good_number`: good bits are none
---   good_back                                 good bits come back as they went
---   itself_number                             what doesn't differ from itself is a number,
---   not_itself_bits                           and the bits of what does are those that stand for every not-a-number
+--   infinite_number                           bits up to an infinity's are no not-a-number's; `good_number`: good bits are none,
+--   good_float                                so their float is one,
+--   good_back                                 and they come back as they went
+--   itself_number                             what doesn't differ from itself is a number
+--   nan_bits_of                               the bits of a not-a-number are those that stand for every one
 use Prim.Native.Nat.{ℕ, ◌%◌, ◌≤◌, ◌<◌}
 use mathlib.Core.Bool.{true, false, not}
 use mathlib.Core.Path.{◌≡◌, refl, sym, subst}
@@ -15,7 +16,7 @@ use borrow.Author.Tests.{ltb-true, lt-ltb, le-ltb, lt-leb, le-leb, eq-eqb, ne_eq
 use lib.Dec.{T, ltb, eqb}
 use lib.Ieee.{Float, nan, inf, fin, binary32, of_bits, to_bits, nan_bits, is_nan, ne, eq}
 use lib.Ieee.Bits.{to_bits-of_bits, nan_bits_is, nan_bits_above}
-use lib.Ieee.Compare.{differs_from_itself}
+use Rattle.std.specs.Float.{NotNan}
 use Rattle.words.proofs.Cases.{by_order, both_true, both_false}
 use Rattle.slips.specs.Good.{Measure, torque, angle, sign_bit, infinity, is_below_zero, good_word}
 
@@ -66,8 +67,11 @@ module _ (m : Measure) (w : ℕ) (g : good_word m w ≡ true) where
   pub good_number : T (not (nan_bits binary32 w))
   good_number = infinite_number w (omega (arith, (good_parts m w g).finite))
 
+  pub good_float : NotNan (of_bits binary32 w)
+  good_float = rw (nan_bits_is binary32 w) at good_number
+
   pub good_back : to_bits binary32 (of_bits binary32 w) ≡ w
-  good_back = to_bits-of_bits binary32 w (good_parts m w g).bits (rw (nan_bits_is binary32 w) at good_number)
+  good_back = to_bits-of_bits binary32 w (good_parts m w g).bits good_float
 
 pub itself_number : (x : Float) → ne x x ≡ false → T (not (is_nan x))
 unfolding ne eq is_nan
@@ -75,6 +79,8 @@ itself_number nan h = subst T h tt
 itself_number (inf s) h = tt
 itself_number (fin s m e) h = tt
 
-pub not_itself_bits : (x : Float) → ne x x ≡ true → 2143289344 ≡ to_bits binary32 x
-unfolding to_bits
-not_itself_bits x h = rw (differs_from_itself x (rw h tt)) refl
+pub nan_bits_of : (x : Float) → is_nan x ≡ true → 2143289344 ≡ to_bits binary32 x
+unfolding is_nan to_bits
+nan_bits_of nan h = refl
+nan_bits_of (inf s) h = cc
+nan_bits_of (fin s m e) h = cc

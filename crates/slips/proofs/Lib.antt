@@ -1,11 +1,11 @@
+pub mod Order
 pub mod GoodBits
 pub mod GoodWords
 pub mod GoodRange
 pub mod WordRead
-pub mod Judged
 pub mod ByTests
-pub mod SlipReturns
-pub mod Stored
 pub mod Spelled
 pub mod OneSetting
 pub mod Lies
+pub mod Judged
+pub mod Stored

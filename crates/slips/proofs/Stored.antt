@@ -1,88 +1,64 @@
 -- The writer's stores, and its returns for every kind.
 --
---   word_stored              the four stores of a word
---   lays_stored              bytes that were stored at a place are laid down there
---   one_laid, two_laid       so a kind and one word, and two
---   good_written             a setting that is good is written by its form,
---   bad_refused              and any other is refused by 11
---   word_laid, word_refused  one of one word, if it is good, and if it isn't; `word_written`: so it is written as a setting
---   range_means              what a range means, from its bits
-use Prim.Native.Nat.{ℕ, suc, ◌+◌, ◌/◌, ◌%◌, ◌≤◌, ◌<◌}
-use mathlib.Core.Bool.{Bool, true, false}
-use mathlib.Core.List.{List, [], ◌∷◌}
-use mathlib.Core.Path.{◌≡◌, refl, sym, ◌∙◌}
-use native.Mathlib.Nat.{mod-eq_of_lt}
+--   part_there      what was copied into a part of a buffer is stored there
+--   word_fits       each word that is left has room; `fitting`: so it has by the test for room
+--   word_stored     with one stored, those behind it are left
+--   all_stored      with none left, the slip is laid down
+--   write_good      what is laid down is the answer where the setting is good
+--   words_written   a setting is written as its kind and its words are; `settings`: so each is by the test of its words
+use Prim.Native.Nat.{ℕ, suc, ◌+◌, ◌-◌, ◌*◌, ◌≤◌, ◌<◌}
+use mathlib.Core.Bool.{Bool, true}
+use mathlib.Core.List.{List, ◌++◌}
+use mathlib.Core.Path.{◌≡◌, refl, sym, ap, ◌∙◌}
 use native.Mathlib.Omega.{arith}
 use borrow.Author.Tests.{lt-ltb}
-use lib.Ieee.{binary32, to_bits}
-use lib.ListN.{length, set}
-use lib.Seq.{sets, sets-eq}
-use Rattle.std.specs.Prelude.{Ok, Err}
+use borrow.Rule.Slice.PartMut.{put_mid}
+use lib.ListN.{length, get_or, take, drop, length-drop, drop_of_length-le}
+use lib.Seq.{sets, sets-eq, drop-cons, drop-drop}
+use Rattle.std.proofs.Common.{append_assoc, Ok}
 use Rattle.words.specs.Lays.{Lays}
-use Rattle.words.specs.declared.Count.{Count}
-use Rattle.words.specs.declared.Refusal.TheVariants as Why
-use Rattle.words.specs.Answer.{Written}
-use Rattle.words.proofs.Lays.{fits_there, sets_append}
-use Rattle.slips.specs.Good.{Measure, good_word, good}
-use Rattle.slips.specs.Slip.{measures, spread, form}
+use Rattle.words.proofs.LaysInParts.{Laying, part_laid, all_laid, puts_lays}
+use Rattle.words.proofs.Lays.{room_there}
+use Rattle.slips.specs.Good.{good}
+use Rattle.slips.specs.Slip.{measures, spread, body, form}
 use Rattle.slips.specs.Promise.{means_setting, WritesSetting}
-use Rattle.slips.specs.Inner.{LaysWord, WritesWord}
-use Rattle.slips.specs.declared.Range.{Range}
+use Rattle.slips.specs.Inner.{WritesWords}
 use Rattle.slips.specs.declared.Setting.{Setting}
-use Rattle.slips.specs.declared.Setting.TheVariants as S
-use Rattle.slips.proofs.GoodRange.{alone}
+use Rattle.slips.proofs.GoodRange.{alone, nothing_good}
+use Rattle.slips.proofs.Spelled.{length_body}
+use Rattle.words.specs.Answer.{Written}
 
-pub word_stored : (s : List ℕ) (at w : ℕ) → w < 4294967296
-    → LaysWord w s at (set (set (set (set s at (w % 256)) (at + 1) (w / 256 % 256)) (at + 2) (w / 256 / 256 % 256)) (at + 3) (w / 256 / 256 / 256))
-word_stored s at w bits =
-    let i : at + 1 ≡ suc at = omega arith in
-    let j : at + 2 ≡ suc (suc at) = omega arith in
-    let k : at + 3 ≡ suc (suc (suc at)) = omega arith in
-    let m : w / 256 < 16777216 = omega arith in
-    let u : w / 256 / 256 < 65536 = omega arith in
-    let last : w / 256 / 256 / 256 % 256 ≡ w / 256 / 256 / 256 = mod-eq_of_lt (omega arith) in
-    record { leaves = rw (i, j, k, last) }
+part_there : (bytes s : List ℕ) (at : ℕ) {k : ℕ} → k ≡ length bytes → at + length bytes ≤ length s → put_mid at k s bytes ≡ sets s at bytes
+part_there bytes s at c h =
+    rw (c, drop-drop (length bytes) at s) (sym (append_assoc (take at s) bytes (drop (at + length bytes) s)) ∙ sym (sets-eq bytes s at h))
 
-pub lays_stored : (bytes s : List ℕ) (at : ℕ) (n : Count) {out : List ℕ} → at + length bytes ≤ length s → n.0 ≡ length bytes
-    → out ≡ sets s at bytes → Lays bytes s at (Ok n) out
-lays_stored bytes s at n room c e = fits_there bytes s at n room c (e ∙ sets-eq bytes s at room)
+module _ (k : ℕ) (ws s : List ℕ) (at : ℕ) where
+  module _ {out : List ℕ} {to : ℕ} {i : ℕ} (l : Laying (form (k, ws)) s at out to (body (drop i ws))) where
+    pub word_fits : at + (1 + 4 * length ws) ≤ length s → i < length ws → to + 4 ≤ length out
+    word_fits room h = omega (arith, l.kept, l.ends, length_body ws, length_body (drop i ws), length-drop i ws)
 
-module _ (s : List ℕ) (at k : ℕ) where
-  pub one_laid : {w : ℕ} {out : List ℕ} → at + 5 ≤ length s → LaysWord w (set s at k) (at + 1) out → Lays (form (k, w ∷ [])) s at (Ok (record { 0 = 5 })) out
-  one_laid {w} room a =
-      let i : at + 1 ≡ suc at = omega arith in
-      lays_stored (form (k, w ∷ [])) s at (record { 0 = 5 }) room refl (a.leaves ∙ rw i)
+    pub word_stored : {after bytes : List ℕ} → i < length ws → to + 4 ≤ length out → bytes ≡ spread 4 (get_or ws i 0)
+        → after ≡ put_mid to (to + 4 - to) out bytes → Laying (form (k, ws)) s at after (to + 4) (body (drop (i + 1) ws))
+    word_stored h room e f =
+        let n : suc i ≡ i + 1 = omega arith in
+        part_laid l (spread 4 (get_or ws i 0)) (body (drop (i + 1) ws))
+        (ap body (drop-cons ws i 0 h) ∙ ap (λ (k : ℕ). spread 4 (get_or ws i 0) ++ body (drop k ws)) n)
+        (f ∙ rw e (part_there (spread 4 (get_or ws i 0)) out to (omega arith) room)) refl
 
-  pub two_laid : {w u : ℕ} {mid out : List ℕ} → at + 9 ≤ length s → LaysWord w (set s at k) (at + 1) mid → LaysWord u mid (at + 5) out
-      → Lays (form (k, w ∷ u ∷ [])) s at (Ok (record { 0 = 9 })) out
-  two_laid {w} {u} room a b =
-      let i : at + 1 ≡ suc at = omega arith in
-      let j : at + 5 ≡ suc at + length (spread 4 w) = omega arith in
-      lays_stored (form (k, w ∷ u ∷ [])) s at (record { 0 = 9 }) room refl
-      (b.leaves ∙ rw (a.leaves, i, j) (sym (sets_append (spread 4 w) (spread 4 u) (set s at k) (suc at))))
+    pub all_stored : at + (1 + 4 * length ws) ≤ length s → length ws ≤ i → Lays (form (k, ws)) s at (Ok (record { 0 = 1 + 4 * length ws })) out
+    all_stored room h =
+        puts_lays _ (omega (arith, length_body ws)) (omega (arith, length_body ws)) (all_laid l (ap body (drop_of_length-le ws h)))
 
-module _ (v : Setting) (s : List ℕ) (at : ℕ) {k : ℕ} {ws : List ℕ} (e : means_setting v ≡ (k, ws)) (known : k < 4) where
-  pub good_written : {r : Written} {out : List ℕ} → good (measures k) ws ≡ true → Lays (form (k, ws)) s at r out → WritesSetting v s at r out
-  good_written g l = let t = lt-ltb k 4 known in record { answer = l.answer ∙ rw (e, t, g); leaves = l.leaves ∙ rw (e, t, g) }
+module _ {k : ℕ} {ws : List ℕ} {good : Bool} {s : List ℕ} {at : ℕ} where
+  pub write_good : {r : Written} {out : List ℕ} → good ≡ true → Lays (form (k, ws)) s at r out → WritesWords k ws good s at r out
+  write_good e l = record { answer = rw e l.answer; leaves = rw e l.leaves }
 
-  pub bad_refused : good (measures k) ws ≡ false → WritesSetting v s at (Err Why.Slip) s
-  bad_refused g = let t = lt-ltb k 4 known in record { answer = rw (e, t, g); leaves = rw (e, t, g) }
-
-module _ (k w : ℕ) {good : Bool} (s : List ℕ) (at : ℕ) where
-  pub word_laid : {r : Written} {out : List ℕ} → good ≡ true → Lays (form (k, w ∷ [])) s at r out → WritesWord k w good s at r out
-  word_laid e l = record { answer = rw e l.answer; leaves = rw e l.leaves }
-
-  pub word_refused : good ≡ false → WritesWord k w good s at (Err Why.Slip) s
-  word_refused e = record { answer = rw e; leaves = rw e }
-
-pub word_written : (v : Setting) (s : List ℕ) (at : ℕ) {k bits w : ℕ} (m : Measure) {tested : Bool} {r : Written} {out : List ℕ}
-    → means_setting v ≡ (k, w ∷ []) → k < 4 → measures k ≡ m ∷ [] → bits ≡ w → tested ≡ good_word m bits → WritesWord k bits tested s at r out
-    → WritesSetting v s at r out
-word_written v s at {k} {bits} m means known measured b t p =
-    let g = t ∙ alone m bits in
+pub words_written : (v : Setting) (s : List ℕ) (at : ℕ) {k : ℕ} {ws : List ℕ} {tested : Bool} {r : Written} {out : List ℕ}
+    → means_setting v ≡ (k, ws) → k < 4 → tested ≡ good (measures k) ws → WritesWords k ws tested s at r out → WritesSetting v s at r out
+words_written v s at {k} means known t p =
     let n = lt-ltb k 4 known in
-    record { answer = p.answer ∙ rw (means, n, measured, ← b, g); leaves = p.leaves ∙ rw (means, n, measured, ← b, g) }
+    record { answer = p.answer ∙ rw (means, n, t); leaves = p.leaves ∙ rw (means, n, t) }
 
-pub range_means : (range : Range) {low high : ℕ} → low ≡ to_bits binary32 range.lowest → high ≡ to_bits binary32 range.highest
-    → means_setting (S.Range range) ≡ (3, low ∷ high ∷ [])
-range_means range e f = rw (e, f)
+pub ruleset settings = (words_written, alone, nothing_good)
+
+pub ruleset fitting = (word_fits, room_there)

@@ -12,14 +12,14 @@ pub use reading::read_setting;
 pub use writing::write_setting;
 
 // A lowest and a highest torque.
-#[derive(Clone, Copy)]
+#[derive(Clone, Copy, Debug, PartialEq)]
 pub struct Range {
     pub lowest: f32,
     pub highest: f32,
 }
 
 // What a workshop sets.
-#[derive(Clone, Copy)]
+#[derive(Clone, Copy, Debug, PartialEq)]
 pub enum Setting {
     Nothing,
     Torque(f32),
@@ -28,11 +28,9 @@ pub enum Setting {
 }
 
 // Whether the torque is neither under the lowest nor over the highest. A not-a-number among the three gets no; the range needn't be good.
+#[tactic(auto, using(crate::proofs::Lies::lies_above, crate::proofs::Lies::lies_under))]
 pub fn lies_in_range(torque: f32, range: Range) -> bool
     ensures { LiesInRange torque range result }
 {
-    if range.lowest <= torque {
-        return torque <= range.highest;
-    }
-    false
+    range.lowest <= torque && torque <= range.highest
 }

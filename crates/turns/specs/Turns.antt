@@ -11,6 +11,7 @@ use Rattle.words.specs.Answer.{Answer, gives, refused, by, because}
 use Rattle.words.specs.declared.Refusal.{Refusal}
 use Rattle.turns.specs.declared.Turn.{Turn}
 use Rattle.turns.specs.declared.Turn.TheVariants.{Tighten, Loosen, Hold}
+use Rattle.words.specs.declared.Refusal.{Refusal}
 
 abbrev pub turn_of : ℤ → Turn
 turn_of (pos zero) = Hold

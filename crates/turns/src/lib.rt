@@ -3,7 +3,7 @@
 #![tactic(auto)]
 
 ghost use Rattle.std.specs.Prelude.{◌≡◌};
-ghost use Rattle.turns.specs.Turns.{by_thread, means_meaning, Means};
+ghost use Rattle.turns.specs.Turns.{turn_of, swapped, Means};
 
 use words::Refusal;
 
@@ -12,35 +12,46 @@ pub const RIGHT: u8 = 0;
 
 pub const LEFT: u8 = 1;
 
-#[derive(Clone, Copy)]
+#[derive(Clone, Copy, Debug, PartialEq, Eq)]
 pub enum Turn {
     Tighten,
     Loosen,
     Hold,
 }
 
-// What a turn means under the thread code, if it means right on a right-hand thread and left on a left-hand one.
-fn under(thread: u8, right: Turn, left: Turn) -> Result<Turn, Refusal>
-    ensures { means_meaning result ≡ by_thread thread right left }
-{
-    if LEFT < thread {
-        return Err(Refusal::Thread);
+impl Turn {
+    // What a number of quarter turns does on a right-hand thread.
+    fn of(quarters: i64) -> Turn
+        ensures { result ≡ turn_of quarters }
+    {
+        match quarters {
+            1.. => Turn::Tighten,
+            0 => Turn::Hold,
+            ..0 => Turn::Loosen,
+        }
     }
-    if thread == RIGHT {
-        return Ok(right);
+
+    // What this turn on a right-hand thread is on a left-hand one.
+    fn swapped(self) -> Turn
+        ensures { result ≡ swapped self }
+    {
+        match self {
+            Turn::Tighten => Turn::Loosen,
+            Turn::Loosen => Turn::Tighten,
+            Turn::Hold => Turn::Hold,
+        }
     }
-    Ok(left)
 }
 
 // What the turn means under the thread code. Refuses a code that is neither `RIGHT` nor `LEFT`, whatever the turn.
+#[tactic(auto, unfolding(crate::specs::Turns::by_thread))]
 pub fn means(quarters: i64, thread: u8) -> Result<Turn, Refusal>
     ensures { Means quarters thread result }
 {
-    if quarters < 0 {
-        return under(thread, Turn::Loosen, Turn::Tighten);
+    let turn = Turn::of(quarters);
+    match thread {
+        RIGHT => Ok(turn),
+        LEFT => Ok(turn.swapped()),
+        _ => Err(Refusal::Thread),
     }
-    if 0 < quarters {
-        return under(thread, Turn::Tighten, Turn::Loosen);
-    }
-    under(thread, Turn::Hold, Turn::Hold)
 }
