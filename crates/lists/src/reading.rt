@@ -76,7 +76,7 @@ fn measure(block: &[u8]) -> Scanned
 {
     let sound = clean(block);
     if sound {
-        let count = low_bytes(block, block.len());
+        let count = low_bytes(block);
         return Scanned::Count(count);
     }
     scan(block)
