@@ -21,8 +21,6 @@ use Rattle.words.specs.Inner.{Puts}
 use Rattle.words.specs.Lays.{Lays}
 use Rattle.words.specs.Promise.{HasRoom}
 use Rattle.words.specs.declared.Refusal.TheVariants.{TooLong}
-use Rattle.words.specs.declared.Written.{Written}
-use Rattle.words.specs.declared.Written.TheVariants.{Bytes, Refused}
 use Rattle.words.proofs.Cases.{by_order}
 use Rattle.words.proofs.Lays.{room_there}
 use Rattle.words.proofs.LaysInParts.{Laying, part_laid, all_laid, rest_fits, puts_lays}
@@ -33,6 +31,8 @@ use Rattle.uleb128.proofs.Forms.{form_small, form_large, form_short, form_long}
 use Rattle.lists.specs.Lists.{forms, list_limit}
 use Rattle.lists.specs.Promise.{WritesList}
 use Rattle.lists.proofs.TotalLoop.{forms_next, forms_end, length_next}
+use Rattle.std.specs.Prelude.{Ok, Err}
+use Rattle.words.specs.Answer.{Written}
 
 -- a number, byte by byte
 module _ (v rest : ℕ) {s : List ℕ} {at : ℕ} {out : List ℕ} {to : ℕ} (g : Laying (form v) s at out to (form rest)) where
@@ -59,7 +59,7 @@ module _ (ns : List ℕ) (i : ℕ) {s : List ℕ} {at : ℕ} {out : List ℕ} {t
       → Laying (forms ns) s at after p (forms (drop (i + 1) ns))
   one_of_list h w = part_laid g (form (get_or ns i 0)) (forms (drop (i + 1) ns)) (forms_next ns i h) w.leaves w.behind
 
-  pub all_of_list : at + length (forms ns) ≤ length s → i ≤ length ns → length ns ≤ i → Lays (forms ns) s at (Bytes (record { 0 = to - at })) out
+  pub all_of_list : at + length (forms ns) ≤ length s → i ≤ length ns → length ns ≤ i → Lays (forms ns) s at (Ok (record { 0 = to - at })) out
   all_of_list r h l = let p = all_laid g (forms_end ns i h l) in puts_lays _ r (omega (arith, p.behind)) p
 
 -- at most ten bytes for each number of 64 bits
@@ -76,7 +76,7 @@ ample ns h {size} {at} p e =
     record { is = sym (le-leb (at + length (forms ns)) size (omega (arith, forms_short ns h, room_there p e))) }
 
 module _ (ns s : List ℕ) (at : ℕ) where
-  pub list_too_long : list_limit < length ns → WritesList ns s at (Refused TooLong) s
+  pub list_too_long : list_limit < length ns → WritesList ns s at (Err TooLong) s
   list_too_long h = let t = lt-ltb list_limit (length ns) h in record { answer = rw t; leaves = rw t }
 
   pub list_laid : {r : Written} {out : List ℕ} → length ns ≤ list_limit → Lays (forms ns) s at r out → WritesList ns s at r out

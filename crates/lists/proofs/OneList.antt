@@ -7,18 +7,20 @@ use Rattle.words.specs.Answer.{Answer, gives, refused, by, by_at}
 use Rattle.words.proofs.OneNumber.{refusal_of, refusal_back}
 use Rattle.words.proofs.OneMeaning.{same_by}
 use Rattle.lists.specs.Promise.{means_read_list}
-use Rattle.lists.specs.declared.ReadList.{ReadList}
-use Rattle.lists.specs.declared.ReadList.TheVariants as L
+use Rattle.lists.specs.declared.NotRead.TheVariants as L
+use Rattle.std.specs.Prelude.{Result, Ok, Err}
+use Rattle.lists.specs.declared.Numbers.{Numbers}
+use Rattle.lists.specs.declared.NotRead.{NotRead}
 
-pub same_list : (r r' : ReadList) → means_read_list r ≡ means_read_list r' → r ≡ r'
+pub same_list : (r r' : Result Numbers NotRead) → means_read_list r ≡ means_read_list r' → r ≡ r'
 same_list = same_by means_read_list back is
   where
-    back : Answer ℕ → ReadList
-    back (gives n) = L.Filled (record { 0 = n })
-    back (refused (by k)) = L.Refused (refusal_of k)
-    back (refused (by_at k p)) = L.Faulty (refusal_of k) (record { 0 = p })
+    back : Answer ℕ → Result Numbers NotRead
+    back (gives n) = Ok (record { 0 = n })
+    back (refused (by k)) = Err (L.Refused (refusal_of k))
+    back (refused (by_at k p)) = Err (L.Faulty (record { 0 = (refusal_of k); 1 = (record { 0 = p }) }))
 
-    is : (r : ReadList) → back (means_read_list r) ≡ r
-    is (L.Filled n) = refl
-    is (L.Faulty a p) = rw (refusal_back a)
-    is (L.Refused a) = rw (refusal_back a)
+    is : (r : Result Numbers NotRead) → back (means_read_list r) ≡ r
+    is (Ok n) = refl
+    is (Err (L.Faulty (record { 0 = a; 1 = p }))) = rw (refusal_back a)
+    is (Err (L.Refused a)) = rw (refusal_back a)

@@ -29,9 +29,10 @@ use Rattle.lists.specs.Strict.{numbers, counted, filling, strict, filled}
 use Rattle.lists.specs.Inner.{many}
 use Rattle.lists.specs.Promise.{means_read_list, ReadsStrict}
 use Rattle.lists.specs.declared.Numbers.{Numbers}
-use Rattle.lists.specs.declared.ReadList.{ReadList}
-use Rattle.lists.specs.declared.ReadList.TheVariants.{Filled, Faulty, Refused}
+use Rattle.lists.specs.declared.NotRead.TheVariants.{Faulty, Refused}
 use Rattle.lists.proofs.NumbersLeft.{numbers_left}
+use Rattle.std.specs.Prelude.{Result, Ok, Err}
+use Rattle.lists.specs.declared.NotRead.{NotRead}
 
 -- as many numbers as are counted, or the fault that is found
 numbers_many : (a : Answer (List ℕ)) {n : ℕ} → gives n ≡ many a → (ns : List ℕ) × (a ≡ gives ns) × (length ns ≡ n)
@@ -84,27 +85,27 @@ unfolding filled
 filled_by_count s old = rw (filling_kept (numbers 0 s) old)
 
 -- strict reading, from what the numbers of the block come to
-strict_answer : (s old : List ℕ) → length s ≤ block_limit → {r : ReadList} {out : List ℕ} → means_read_list r ≡ counted (numbers 0 s) (length old)
+strict_answer : (s old : List ℕ) → length s ≤ block_limit → {r : Result Numbers NotRead} {out : List ℕ} → means_read_list r ≡ counted (numbers 0 s) (length old)
     → out ≡ filling (numbers 0 s) old → ReadsStrict s old r out
 unfolding strict filled
 strict_answer s old short e f = let t = le-ltb block_limit (length s) short in record { answer = rw t e; leaves = rw t f }
 
 module _ (s old : List ℕ) where
-  pub block_too_long : block_limit < length s → ReadsStrict s old (Refused TooLong) old
+  pub block_too_long : block_limit < length s → ReadsStrict s old (Err (Refused TooLong)) old
   unfolding strict filled
   block_too_long h = let t = lt-ltb block_limit (length s) h in record { answer = rw t; leaves = rw t }
 
-  pub block_faulty : {k : Refusal} {p : Place} → length s ≤ block_limit → refused (because_at k p.0) ≡ many (numbers 0 s) → ReadsStrict s old (Faulty k p) old
+  pub block_faulty : {k : Refusal} {p : Place} → length s ≤ block_limit → refused (because_at k p.0) ≡ many (numbers 0 s) → ReadsStrict s old (Err (Faulty (record { 0 = k; 1 = p }))) old
   block_faulty short e = let f = fault_many (numbers 0 s) e in strict_answer s old short (rw f) (rw f)
 
   module _ {n : ℕ} (short : length s ≤ block_limit) (e : gives n ≡ many (numbers 0 s)) where
-    pub slice_full : length old < n → ReadsStrict s old (Refused NoRoom) old
+    pub slice_full : length old < n → ReadsStrict s old (Err (Refused NoRoom)) old
     slice_full h =
         let g = numbers_many (numbers 0 s) e in
         let t = lt-leb (length g.0) (length old) (omega (arith, g.2)) in
         strict_answer s old short (rw (g.1, t)) (rw (g.1, t))
 
-    pub slice_filled : {out : List ℕ} {m : Numbers} → Bytes s → n ≤ length old → m.0 ≡ n → AllStored s old out → ReadsStrict s old (Filled m) out
+    pub slice_filled : {out : List ℕ} {m : Numbers} → Bytes s → n ≤ length old → m.0 ≡ n → AllStored s old out → ReadsStrict s old (Ok m) out
     slice_filled bytes h f stored =
         let g = numbers_many (numbers 0 s) e in
         let r : length g.0 ≤ length old = omega (arith, g.2) in

@@ -7,15 +7,12 @@
 --   Passes s p r       r says what stands at the start p: a fault, or a number and the place behind it
 --   means_scanned      what the first pass's answer says
 --   Scans s r          r says how many numbers the block s has, or its first fault
-use Rattle.std.specs.Prelude.{ℕ, ◌≤◌, ◌<◌, List, ◌∷◌, ◌≡◌, length, drop}
+use Rattle.std.specs.Prelude.{ℕ, ◌≤◌, ◌<◌, List, ◌∷◌, ◌≡◌, length, drop, Result, Ok, Err}
 use Rattle.words.specs.Answer.{Answer, gives, refused, because_at}
 use Rattle.blocks.specs.Block.{block_limit}
 use Rattle.blocks.specs.GroupsAndTail.{Start}
 use Rattle.lists.specs.Strict.{numbers}
-use Rattle.lists.specs.declared.reading.Passed.{Passed}
-use Rattle.lists.specs.declared.reading.Passed.TheVariants as P
-use Rattle.lists.specs.declared.reading.Scanned.{Scanned}
-use Rattle.lists.specs.declared.reading.Scanned.TheVariants as C
+use Rattle.words.specs.declared.Fault.{Fault}
 
 abbrev pub number_ahead : ℕ → Answer (List ℕ) → Answer (List ℕ)
 number_ahead v (gives ns) = gives (v ∷ ns)
@@ -35,13 +32,13 @@ pub record Behind (s : List ℕ) (p v q : ℕ) : Type 0 where
   pub start : Start s q
   pub left : numbers p (drop p s) ≡ number_ahead v (numbers q (drop q s))
 
-abbrev pub Passes : List ℕ → ℕ → Passed → Type 0
-Passes s p (P.Number v q) = Behind s p v q
-Passes s p (P.Fault why at) = numbers p (drop p s) ≡ refused (because_at why at.0)
+abbrev pub Passes : List ℕ → ℕ → Result (ℕ × ℕ) Fault → Type 0
+Passes s p (Ok (v, q)) = Behind s p v q
+Passes s p (Err (record { 0 = why; 1 = at })) = numbers p (drop p s) ≡ refused (because_at why at.0)
 
-abbrev pub means_scanned : Scanned → Answer ℕ
-means_scanned (C.Count n) = gives n
-means_scanned (C.Fault why at) = refused (because_at why at.0)
+abbrev pub means_scanned : Result ℕ Fault → Answer ℕ
+means_scanned (Ok n) = gives n
+means_scanned (Err (record { 0 = why; 1 = at })) = refused (because_at why at.0)
 
-pub record Scans (s : List ℕ) (r : Scanned) : Type 0 where
+pub record Scans (s : List ℕ) (r : Result ℕ Fault) : Type 0 where
   pub is : means_scanned r ≡ many (numbers 0 s)

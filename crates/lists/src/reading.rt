@@ -27,29 +27,29 @@ enum Scanned {
 
 // What stands at a start before the block's end. From there no step by the unsigned rule says a signed number, that it is
 // finished, or that it refuses; those arms are never taken.
-fn pass(block: &[u8], at: usize) -> Passed
+fn pass(block: &[u8], at: usize) -> Result<(u64, usize), Fault>
     requires { StartsBefore block.now at }
     ensures { Passes block.now at result }
 {
     let cursor = Cursor { place: Place(at) };
     match cursor.step(block, Rule::Unsigned) {
-        Step::Number(value, _, next) => {
+        Ok(Step::Number(value, _, next)) => {
             let place = next.place;
             let behind = place.0;
             match value {
-                Value::Unsigned(v) => Passed::Number(v, behind),
-                Value::Signed(_) => Passed::Fault(Refusal::Overflow, Place(at)),
+                Value::Unsigned(v) => Ok((v, behind)),
+                Value::Signed(_) => Err(Fault(Refusal::Overflow, Place(at))),
             }
         }
-        Step::Gap(refusal, place, _, _) => Passed::Fault(refusal, place),
-        Step::Tail(_, _) => Passed::Fault(Refusal::End, Place(block.len())),
-        Step::Finished(_) => Passed::Fault(Refusal::End, Place(at)),
-        Step::Refused(refusal) => Passed::Fault(refusal, Place(at)),
+        Ok(Step::Gap(Fault(refusal, place), _, _)) => Err(Fault(refusal, place)),
+        Ok(Step::Tail(_, _)) => Err(Fault(Refusal::End, Place(block.len()))),
+        Ok(Step::Finished(_)) => Err(Fault(Refusal::End, Place(at))),
+        Err(refusal) => Err(Fault(refusal, Place(at))),
     }
 }
 
 // The plain pass: counts the numbers, or finds the first fault, and stores none.
-fn scan(block: &[u8]) -> Scanned
+fn scan(block: &[u8]) -> Result<usize, Fault>
     requires { length block.now ≤ block_limit }
     ensures { Scans block.now result }
 {
@@ -57,27 +57,27 @@ fn scan(block: &[u8]) -> Scanned
     let mut count: usize = 0;
     while at < block.len() {
         match pass(block, at) {
-            Passed::Number(_, behind) => {
+            Ok((_, behind)) => {
                 at = behind;
                 count += 1;
             }
-            Passed::Fault(refusal, place) => {
-                return Scanned::Fault(refusal, place);
+            Err(Fault(refusal, place)) => {
+                return Err(Fault(refusal, place));
             }
         }
     }
-    Scanned::Count(count)
+    Ok(count)
 }
 
 // How many numbers a block has, or its first fault: by the sound scan, and by the plain pass where that doesn't tell.
-fn measure(block: &[u8]) -> Scanned
+fn measure(block: &[u8]) -> Result<usize, Fault>
     requires { length block.now ≤ block_limit }
     ensures { Scans block.now result }
 {
     let sound = clean(block);
     if sound {
         let count = low_bytes(block);
-        return Scanned::Count(count);
+        return Ok(count);
     }
     scan(block)
 }
@@ -85,20 +85,20 @@ fn measure(block: &[u8]) -> Scanned
 // Fills the front of the slice with the block's numbers, if every group is one and there is no tail: else 7, the first fault by
 // place (2 or 3 in a group, 1 for a tail, decided by the block's end), or 5; then the slice is as it was.
 #[tactic(auto, using(crate::proofs::StrictAnswers::strict_by_count, crate::proofs::StrictAnswers::filled_by_count))]
-pub fn read_strict(block: &[u8], numbers: &mut [u64]) -> ReadList
+pub fn read_strict(block: &[u8], numbers: &mut [u64]) -> Result<Numbers, NotRead>
     ensures { ReadsStrict block.now numbers.old result numbers.new }
 {
     if BLOCK_LIMIT < block.len() {
-        return ReadList::Refused(Refusal::TooLong);
+        return Err(NotRead::Refused(Refusal::TooLong));
     }
     match measure(block) {
-        Scanned::Count(count) => {
+        Ok(count) => {
             if numbers.len() < count {
-                return ReadList::Refused(Refusal::NoRoom);
+                return Err(NotRead::Refused(Refusal::NoRoom));
             }
             fill(block, numbers, count);
-            ReadList::Filled(Numbers(count))
+            Ok(Numbers(count))
         }
-        Scanned::Fault(refusal, place) => ReadList::Faulty(refusal, place),
+        Err(Fault(refusal, place)) => Err(NotRead::Faulty(Fault(refusal, place))),
     }
 }

@@ -73,7 +73,7 @@ fn put(v: u64, buffer: &mut [u8], at: usize) -> usize
 }
 
 // Lays the numbers' forms down at a place where there is room for them.
-fn lay(numbers: &[u64], buffer: &mut [u8], at: usize) -> Written
+fn lay(numbers: &[u64], buffer: &mut [u8], at: usize) -> Result<Count, Refusal>
     requires { at + length (forms numbers.now) ≤ length buffer.old }
     ensures { Lays (forms numbers.now) buffer.old at result buffer.new }
 {
@@ -85,19 +85,19 @@ fn lay(numbers: &[u64], buffer: &mut [u8], at: usize) -> Written
         i += 1;
     }
     let n = to - at;
-    Written::Bytes(Count(n))
+    Ok(Count(n))
 }
 
 // Lays the numbers' forms down one after another at the place and answers the count of bytes: else 7 or 5, and no byte is changed.
-pub fn write_list(numbers: &[u64], buffer: &mut [u8], place: Place) -> Written
+pub fn write_list(numbers: &[u64], buffer: &mut [u8], place: Place) -> Result<Count, Refusal>
     ensures { WritesList numbers.now buffer.old place.0 result buffer.new }
 {
     if LIST_LIMIT < numbers.len() {
-        return Written::Refused(Refusal::TooLong);
+        return Err(Refusal::TooLong);
     }
     let room = list_fits(numbers, buffer.len(), place);
     if !room {
-        return Written::Refused(Refusal::NoRoom);
+        return Err(Refusal::NoRoom);
     }
     let at = place.0;
     lay(numbers, buffer, at)

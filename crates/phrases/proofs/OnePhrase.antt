@@ -19,10 +19,10 @@ use Rattle.words.proofs.OneNumber.{refusal_back}
 use Rattle.lists.specs.Lists.{list_limit}
 use Rattle.phrases.specs.Grammar.{Phrase, Good, sentences}
 use Rattle.phrases.specs.Promise.{PhraseRow, too_long, not_good, no_room, Phrased, row, fills, means_read_phrase, ReadsPhrase}
-use Rattle.phrases.specs.declared.ReadPhrase.{ReadPhrase}
-use Rattle.phrases.specs.declared.ReadPhrase.TheVariants.{Filled, Refused}
 use Rattle.phrases.proofs.OneReading.{one_item}
 use Rattle.phrases.proofs.Decided.{good_or_not}
+use Rattle.std.specs.Prelude.{Result, Ok, Err}
+use Rattle.lists.specs.declared.Numbers.{Numbers}
 
 module _ {s : List ℕ} {room : ℕ} where
   pub one_row : {a b : Refusal} → PhraseRow s room a → PhraseRow s room b → a ≡ b
@@ -48,16 +48,16 @@ one_phrased (fills h p x f) (row y) = no_row h x f y
 one_phrased {old = old} (fills h p x f) (fills k q y g) =
     let e = (one_item x y).0 in (ap (λ z. gives (length (sentences z))) e, ap (λ z. sentences z ++ drop (length (sentences z)) old) e)
 
-pub same_phrase : (r r' : ReadPhrase) → means_read_phrase r ≡ means_read_phrase r' → r ≡ r'
+pub same_phrase : (r r' : Result Numbers Refusal) → means_read_phrase r ≡ means_read_phrase r' → r ≡ r'
 same_phrase =
-    same_by means_read_phrase (back (λ (n : ℕ). Filled (record { 0 = n })) Refused)
-    (λ r. elim r as (λ k. (back (λ (n : ℕ). Filled (record { 0 = n })) Refused) (means_read_phrase k) ≡ k) [ Filled n ↦ refl | Refused why ↦ ap Refused (refusal_back why) ])
+    same_by means_read_phrase (back (λ (n : ℕ). Ok (record { 0 = n })) Err)
+    (λ r. elim r as (λ k. (back (λ (n : ℕ). Ok (record { 0 = n })) Err) (means_read_phrase k) ≡ k) [ Ok n ↦ refl | Err why ↦ ap Err (refusal_back why) ])
 
-pub some_phrase : (s old : List ℕ) → (r : ReadPhrase) × (out : List ℕ) × ReadsPhrase s old r out
+pub some_phrase : (s old : List ℕ) → (r : Result Numbers Refusal) × (out : List ℕ) × ReadsPhrase s old r out
 some_phrase s old =
-    by_order list_limit (length s) (λ h. (Refused TooLong, old, record { answer = row (too_long h) }))
+    by_order list_limit (length s) (λ h. (Err TooLong, old, record { answer = row (too_long h) }))
     (λ h. ⊎_elim
     (λ x. by_order (length old) (length (sentences x.0))
-    (λ f. (Refused NoRoom, old, record { answer = row (no_room h x.0 x.1 f) }))
-    (λ f. (Filled (record { 0 = length (sentences x.0) }), _, record { answer = fills h x.0 x.1 f })))
-    (λ g. (Refused Tree, old, record { answer = row (not_good h g) })) (good_or_not s))
+    (λ f. (Err NoRoom, old, record { answer = row (no_room h x.0 x.1 f) }))
+    (λ f. (Ok (record { 0 = length (sentences x.0) }), _, record { answer = fills h x.0 x.1 f })))
+    (λ g. (Err Tree, old, record { answer = row (not_good h g) })) (good_or_not s))

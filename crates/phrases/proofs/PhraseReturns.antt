@@ -4,7 +4,7 @@
 use Prim.Native.Nat.{ℕ, ◌≤◌, ◌<◌}
 use mathlib.Core.Path.{◌≡◌, refl, ap, sym, ◌∙◌}
 use mathlib.Core.List.{List, [], ◌++◌}
-use Rattle.std.proofs.Common.{Option, Some, None, Bool, true, false, not, eqb}
+use Rattle.std.proofs.Common.{Option, Some, None, Bool, true, false, not, eqb, Ok, Err}
 use Rattle.std.specs.Option.{option_eq}
 use Rattle.std.proofs.lemmas.Bool.{eqb-true, eq-eqb}
 use native.Mathlib.Omega.{arith}
@@ -15,7 +15,6 @@ use Rattle.lists.specs.Lists.{list_limit}
 use Rattle.phrases.specs.Grammar.{Phrase, nil, cons, none, more, nesting, Good}
 use Rattle.phrases.specs.Inner.{SomeAhead, Passes, found, missed, even, halves}
 use Rattle.phrases.specs.Promise.{too_long, not_good, no_room, row, fills, ReadsPhrase}
-use Rattle.phrases.specs.declared.ReadPhrase.TheVariants.{Filled, Refused}
 use Rattle.phrases.proofs.OneReading.{one_items}
 use Rattle.phrases.proofs.Halves.{good_halves}
 use Rattle.phrases.proofs.HalvesLoop.{count_halves}
@@ -48,20 +47,20 @@ module _ {s : List ℕ} where
   not_good_list (missed f) n p z = f [] (cons p nil, more z none)
 
 module _ {s old : List ℕ} where
-  pub list_too_long : list_limit < length s → ReadsPhrase s old (Refused Why.TooLong) old
+  pub list_too_long : list_limit < length s → ReadsPhrase s old (Err Why.TooLong) old
   list_too_long h = record { answer = row (too_long h) }
 
   module _ {r : Option ℕ} (x : Passes (SomeAhead nesting 1) s 0 r) (short : length s ≤ list_limit) where
-    pub not_one : true ≡ not (option_eq eqb r (Some (length s))) → ReadsPhrase s old (Refused Why.Tree) old
+    pub not_one : true ≡ not (option_eq eqb r (Some (length s))) → ReadsPhrase s old (Err Why.Tree) old
     not_one n = record { answer = row (not_good short (not_good_list x (other_place n))) }
 
     module _ (e : false ≡ not (option_eq eqb r (Some (length s)))) {n : ℕ} (i : n ≡ count_by even s) where
-      pub list_full : length old < n → ReadsPhrase s old (Refused Why.NoRoom) old
+      pub list_full : length old < n → ReadsPhrase s old (Err Why.NoRoom) old
       list_full h =
           let y = whole x (same_place e) in
           record { answer = row (no_room short y.0 y.1 (omega (arith, count_halves s, ap length (good_halves y.1)))) }
 
-      pub list_filled : {out : List ℕ} → n ≤ length old → out ≡ halves s ++ drop n old → ReadsPhrase s old (Filled (record { 0 = n })) out
+      pub list_filled : {out : List ℕ} → n ≤ length old → out ≡ halves s ++ drop n old → ReadsPhrase s old (Ok (record { 0 = n })) out
       list_filled h f =
           let y = whole x (same_place e) in
           let k = good_halves y.1 in

@@ -76,19 +76,19 @@ fn fill(numbers: &[u64], sentences: &mut [u64])
 
 // Fills the front of the slice with the sentences of the list's leaves, if it is one item and they fit: else 7 (above 16,384 numbers), 13 (not exactly
 // one item, or branches nest too deep) or 5; then the slice is as it was.
-pub fn read_phrase(numbers: &[u64], sentences: &mut [u64]) -> ReadPhrase
+pub fn read_phrase(numbers: &[u64], sentences: &mut [u64]) -> Result<Numbers, Refusal>
     ensures { ReadsPhrase numbers.now sentences.old result sentences.new }
 {
     if LIST_LIMIT < numbers.len() {
-        return ReadPhrase::Refused(Refusal::TooLong);
+        return Err(Refusal::TooLong);
     }
     if items(numbers, 0, NESTING, 1) != Some(numbers.len()) {
-        return ReadPhrase::Refused(Refusal::Tree);
+        return Err(Refusal::Tree);
     }
     let count = leaves(numbers);
     if sentences.len() < count {
-        return ReadPhrase::Refused(Refusal::NoRoom);
+        return Err(Refusal::NoRoom);
     }
     fill(numbers, &mut sentences[..count]);
-    ReadPhrase::Filled(Numbers(count))
+    Ok(Numbers(count))
 }

@@ -40,13 +40,13 @@ fn rest(s: &[u8], numbers: &mut [u64], from: usize, to: usize, start: usize)
     let mut n = start;
     while at < to {
         match read_u64(s, Place(at)) {
-            ReadU64::Number(v, count) => {
+            Ok((v, count)) => {
                 let taken = count.0;
                 numbers[n] = v;
                 at += taken;
                 n += 1;
             }
-            ReadU64::Refused(_, _) => {
+            Err(_) => {
                 return;
             }
         }
