@@ -8,7 +8,7 @@ use mathlib.Core.Path.{◌≡◌, refl, sym, ◌∙◌, subst}
 use mathlib.Core.List.{List, [], ◌∷◌}
 use native.Mathlib.Omega.{arith}
 use lib.ListN.{length, take, drop, length-drop}
-use lib.Seq.{get_or-drop, drop-drop, length-take-le, take-length}
+use lib.Seq.{get_or-drop, drop-drop, length-take-le}
 use Rattle.words.specs.Answer.{Answer, gives, refused, moved}
 use Rattle.words.proofs.Cases.{by_order}
 use Rattle.words.proofs.Moved.{moved_gave}
@@ -88,7 +88,7 @@ module _ (s : List ℕ) (bytes : Bytes s) where
   pub numbers_left : {ns : List ℕ} → numbers 0 s ≡ gives ns → Left s (length s) 0 ns
   numbers_left q = numbers_left_by (length s) 0 (omega arith) (omega arith) q
 
-  pub clean_count : Clean s → {n : ℕ} → n ≡ lows (take (length s) s) → gives n ≡ many (numbers 0 s)
+  pub clean_count : Clean s → {n : ℕ} → n ≡ lows s → gives n ≡ many (numbers 0 s)
   clean_count c e =
       let l = clean_left c in
-      rw (left_numbers l.1, e, take-length s, lows_whole l.1)
+      rw (left_numbers l.1, e, lows_whole l.1)

@@ -2,7 +2,6 @@
 --
 --   Front, LowBytes                       numbers one behind another, and the bytes below 128 among theirs
 --   Marks, CleanLeft                      the sound scan: what its marks tell, and that a clean block is numbers
---   CountLoop                             counting bytes below 128
 --   Bytewise, FirstFlag, PairedDigits     eight bytes as one number: masks, the first flag, digits put together
 --   HighBits, NumberInWord, NumberAtOnce  what the high bits of a word tell, and the number that it begins with
 --   TwoParts, Smalls, BytesStored         bytes from two parts of as many; small ones at the front; bytes stored as numbers
@@ -12,7 +11,6 @@ pub mod Front
 pub mod LowBytes
 pub mod Marks
 pub mod CleanLeft
-pub mod CountLoop
 pub mod Bytewise
 pub mod FirstFlag
 pub mod PairedDigits

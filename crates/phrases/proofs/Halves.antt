@@ -5,17 +5,16 @@ use Prim.Native.Nat.{ℕ, ◌+◌, ◌*◌, ◌/◌, ◌%◌}
 use mathlib.Core.List.{List, ◌∷◌, ◌++◌, append_assoc, append-nil}
 use mathlib.Core.Path.{◌≡◌, refl, ap, sym, ◌∙◌}
 use native.Mathlib.Omega.{arith}
-use borrow.Author.Tests.{le-ltb, lt-ltb}
 use Rattle.phrases.specs.Grammar.{Phrase, Phrases, Item, Items, leaf, branch, none, more, Good, sentences, sentences_of}
 use Rattle.phrases.specs.Inner.{halves}
 
 even_halves : (n m : ℕ) (s : List ℕ) → n ≡ 2 * m → halves (n ∷ s) ≡ m ∷ halves s
 unfolding halves
-even_halves n m s e = let h : n / 2 ≡ m = omega arith in rw (lt-ltb (n % 2) 1 (omega arith), h)
+even_halves n m s e = let h : n / 2 ≡ m = omega arith in let i : n % 2 ≡ 0 = omega arith in simp (i, h)
 
 odd_halves : (n k : ℕ) (s : List ℕ) → n ≡ 2 * k + 1 → halves (n ∷ s) ≡ halves s
 unfolding halves
-odd_halves n k s e = rw (le-ltb (n % 2) 1 (omega arith))
+odd_halves n k s e = let i : n % 2 ≡ 1 = omega arith in simp i
 
 mutual
   unfolding sentences

@@ -1,100 +1,80 @@
--- Counting and storing the halves of the even numbers: what the two loops hold, over those that are left.
+-- Storing the halves of the even numbers.
 --
---   Counted s at count           count of them stand before the place at, and the others behind it
---   none_counted, next_counted   at first none are counted, and with each even number one more
---   all_counted                  at the end all are
---   Stored s old out at count    and those that are counted are stored at the front of the slice
+--   count_halves                 there are as many as even numbers
+--   Stored s out at filled       those of the numbers in front of the place at stand in front of the place filled, and the slice just has room for all
 --   none_stored, next_stored     at first none are stored, and with each even number one more; what an odd one stores, the next even one stores over
---   next_number, next_fits       while some are left, a number is, and there is room
---   all_stored                   at the end all are
-use Prim.Native.Nat.{ℕ, suc, ◌+◌, ◌-◌, ◌/◌, ◌%◌, ◌≤◌, ◌<◌}
-use mathlib.Core.Path.{◌≡◌, refl, ap, sym, ◌∙◌}
-use mathlib.Core.List.{List, [], ◌∷◌}
-use native.Mathlib.Nat.{zero-add}
-use native.Mathlib.Numerals.{add-one}
-use native.Mathlib.Omega.{arith}
-use borrow.Author.Tests.{le-ltb, lt-ltb}
-use lib.ListN.{length, get_or, drop, set, length-set, drop_of_length-le}
-use lib.Seq.{drop-cons, sets, sets-eq, set-set}
+--   all_seen                     behind the last number the slice is full
+--   all_stored                   where it is full, all are stored
+use Rattle.std.proofs.Common.{◌≡◌, ℕ, ◌+◌, ◌-◌, ◌/◌, ◌%◌, ◌<◌, ◌≤◌, List, [], ◌∷◌, ◌++◌, length, get_or, take, drop, set, refl, ap, sym, ◌∙◌, arith, zero-add, append-nil}
+use Rattle.std.specs.List.{count_by, filter}
+use Rattle.std.proofs.Math.ListN.{length-set, drop_of_length-le}
+use Rattle.std.proofs.Math.Seq.{take-length}
+use Rattle.std.proofs.lemmas.List.{length-map, map-append, take_more, drop_more, take-append-drop, nil_from_length, take-set, take_more_set}
+use Rattle.std.proofs.lemmas.List.Elements.{filter-append}
+use Rattle.std.proofs.lemmas.List.Sums.{length-filter}
 use Rattle.words.proofs.Cases.{by_order}
-use Rattle.phrases.specs.Inner.{halves, Fits, Fills}
+use Rattle.phrases.specs.Inner.{even, halves}
 
-even_next : (s : List ℕ) (p : ℕ) → p < length s → get_or s p 0 % 2 < 1 → halves (drop p s) ≡ get_or s p 0 / 2 ∷ halves (drop (p + 1) s)
+pub count_halves : (s : List ℕ) → length (halves s) ≡ count_by even s
 unfolding halves
-even_next s p h e = rw (add-one p, drop-cons s p 0 h) (simp (lt-ltb _ _ e))
+count_halves s = length-map (filter even s) (λ n. n / 2) ∙ length-filter even s
 
-odd_next : (s : List ℕ) (p : ℕ) → p < length s → 1 ≤ get_or s p 0 % 2 → halves (drop p s) ≡ halves (drop (p + 1) s)
+halves_both : (a b : List ℕ) → halves (a ++ b) ≡ halves a ++ halves b
 unfolding halves
-odd_next s p h e = rw (add-one p, drop-cons s p 0 h) (simp (le-ltb _ _ e))
+halves_both a b = rw (filter-append even a b) (map-append (λ n. n / 2) (filter even a) (filter even b))
 
-none_next : (s : List ℕ) (p : ℕ) → length s ≤ p → halves (drop p s) ≡ []
+even_alone : (n : ℕ) → n % 2 ≡ 0 → halves (n ∷ []) ≡ n / 2 ∷ []
 unfolding halves
-none_next s p h = rw (drop_of_length-le s h)
+even_alone n h = simp h
 
-count_next : (s : List ℕ) (p : ℕ) → p < length s → length (halves (drop p s)) ≡ 1 - get_or s p 0 % 2 + length (halves (drop (p + 1) s))
-count_next s p h =
-    by_order (get_or s p 0 % 2) 1 (λ e. let q = ap length (even_next s p h e) in omega arith) (λ e. let q = ap length (odd_next s p h e) in omega arith)
+odd_alone : (n : ℕ) → n % 2 ≡ 1 → halves (n ∷ []) ≡ []
+unfolding halves
+odd_alone n h = simp h
 
-pub record Counted (s : List ℕ) (at count : ℕ) : Type 0 where
-  pub within : count ≤ at
-  pub left : count + length (halves (drop at s)) ≡ length (halves s)
+halves_more : (s : List ℕ) (at : ℕ) → at < length s → halves (take (at + 1) s) ≡ halves (take at s) ++ halves (get_or s at 0 ∷ [])
+halves_more s at h = rw (take_more s at 0 h) (halves_both (take at s) (get_or s at 0 ∷ []))
 
-pub none_counted : (s : List ℕ) → Counted s 0 0
-none_counted s = record { within = omega arith; left = zero-add (length (halves s)) }
+no_halves : halves [] ≡ []
+unfolding halves
+no_halves = refl
 
-module _ (s : List ℕ) {at count : ℕ} (g : Counted s at count) where
-  pub next_counted : at < length s → Counted s (at + 1) (count + (1 - get_or s at 0 % 2))
-  next_counted h = let q = count_next s at h in record { within = omega (arith, g.within); left = omega (arith, g.left) }
+pub record Stored (s out : List ℕ) (at filled : ℕ) : Type 0 where
+  pub front : take filled out ≡ halves (take at s)
+  pub room : filled + length (halves (drop at s)) ≡ length out
 
-  pub all_counted : length s ≤ at → count ≡ length (halves s)
-  all_counted h = let q : length (halves (drop at s)) ≡ 0 = ap length (none_next s at h) in omega (arith, g.left)
+pub none_stored : (s out : List ℕ) → length out ≡ count_by even s → Stored s out 0 0
+none_stored s out h = record { front = sym no_halves; room = zero-add (length (halves s)) ∙ count_halves s ∙ sym h }
 
-  some_left : count < length (halves s) → at < length s
-  some_left h = by_order at (length s) (λ k. k) (λ k. absurd (let e = all_counted k in omega arith))
+module _ (s out : List ℕ) {at filled : ℕ} (g : Stored s out at filled) where
+  pub all_stored : filled ≡ length out → out ≡ halves s
+  all_stored h =
+      let none : halves (drop at s) ≡ [] = nil_from_length (halves (drop at s)) (omega (arith, g.room)) in
+      let all : halves s ≡ halves (take at s) = ap halves (sym (take-append-drop at s)) ∙ halves_both (take at s) (drop at s) ∙ rw none (append-nil (halves (take at s))) in
+      sym (take-length out) ∙ rw (← h) g.front ∙ sym all
 
--- a store where another follows is as if it were not
-over : (l : List ℕ) (i a : ℕ) (vs : List ℕ) → 0 < length vs → sets (set l i a) i vs ≡ sets l i vs
-over l i a [] h = absurd (omega arith)
-over l i a (v ∷ vs) h = ap (λ m. sets m (suc i) vs) (set-set l i a v)
+  pub all_seen : length s ≤ at → filled ≡ length out
+  all_seen h = let none : halves (drop at s) ≡ [] = rw (drop_of_length-le s h) no_halves in omega (arith, g.room, ap length none)
 
-unstored : (l : List ℕ) (i : ℕ) (vs : List ℕ) → length vs ≡ 0 → sets l i vs ≡ l
-unstored l i [] h = refl
-unstored l i (v ∷ vs) h = absurd (omega arith)
+  module _ (h : at < length s) (l : filled < length out) where
+    left : halves (drop at s) ≡ halves (get_or s at 0 ∷ []) ++ halves (drop (at + 1) s)
+    left = ap halves (drop_more s at 0 h) ∙ halves_both (get_or s at 0 ∷ []) (drop (at + 1) s)
 
-pub record Stored (s old out : List ℕ) (at count : ℕ) : Type 0 where
-  pub counts : Counted s at count
-  pub kept : length out ≡ length old
-  pub left : sets out count (halves (drop at s)) ≡ sets old 0 (halves s)
-
-module _ {s old : List ℕ} {n : ℕ} (fits : Fits s old n) where
-  pub none_stored : Stored s old old 0 0
-  none_stored = record { counts = none_counted s; kept = refl; left = refl }
-
-  module _ {out : List ℕ} {at count : ℕ} (g : Stored s old out at count) where
-    pub next_number : count < n → at < length s
-    next_number h = some_left s g.counts (omega (arith, fits.count))
-
-    pub next_fits : count < n → count < length out
-    next_fits h = omega (arith, g.kept, fits.enough)
-
-    next_left : count < n → sets (set out count (get_or s at 0 / 2)) (count + (1 - get_or s at 0 % 2)) (halves (drop (at + 1) s)) ≡ sets old 0 (halves s)
-    next_left h =
-        let i = next_number h in
-        by_order (get_or s at 0 % 2) 1
-        (λ e. let j : count + (1 - get_or s at 0 % 2) ≡ suc count = omega arith in rw j (rw (even_next s at i e) at g.left))
-        (λ e.
-        let j : count + (1 - get_or s at 0 % 2) ≡ count = omega arith in
-        let q = ap length (odd_next s at i e) in
-        rw j (over out count (get_or s at 0 / 2) (halves (drop (at + 1) s)) (omega (arith, g.counts.left, fits.count)) ∙ (rw (odd_next s at i e) at g.left)))
-
-    pub next_stored : count < n → Stored s old (set out count (get_or s at 0 / 2)) (at + 1) (count + (1 - get_or s at 0 % 2))
-    next_stored h =
-        record { counts = next_counted s g.counts (next_number h); kept = length-set out count (get_or s at 0 / 2) ∙ g.kept; left = next_left h }
-
-    pub all_stored : n ≤ count → Fills s old out
-    all_stored h =
-        let e : length (halves (drop at s)) ≡ 0 = omega (arith, g.counts.left, fits.count) in
+    pub next_stored : Stored s (set out filled (get_or s at 0 / 2)) (at + 1) (filled + (1 - get_or s at 0 % 2))
+    next_stored =
+        let n = get_or s at 0 in
+        let more = halves_more s at h in
+        by_order (n % 2) 1
+        (λ i.
+        let k : filled + (1 - n % 2) ≡ filled + 1 = omega arith in
+        let one = even_alone n (omega arith) in
         record {
-          leaves = sym (unstored out count (halves (drop at s)) e) ∙ g.left ∙ sets-eq (halves s) old 0 (omega (arith, fits.count, fits.enough))
-              ∙ rw (zero-add (length (halves s)));
-        }
+          front = rw (k, take_more_set out filled (n / 2) l, g.front, more, one) refl;
+          room = simp length-set (let q = ap length (rw one at left) in omega (arith, g.room));
+        })
+        (λ i.
+        let k : filled + (1 - n % 2) ≡ filled = omega arith in
+        let one = odd_alone n (omega arith) in
+        record {
+          front = rw (k, take-set out filled (n / 2), g.front, more, one) (sym (append-nil (halves (take at s))));
+          room = simp length-set (let q = ap length (rw one at left) in omega (arith, g.room));
+        })

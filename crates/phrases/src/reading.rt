@@ -1,10 +1,9 @@
 // Reading a phrase: its shape by recursion, then how many leaves there are, and then their sentences. The leaves of a good list are its even
 // numbers, so only the shape needs the recursion.
 //
-// `item` and `items` answer a place and no enum, which would go through memory: the compiler then keeps a level of the recursion in registers.
 // `items` is called in two places and `item` in one, so that `item` becomes part of it, and a leaf costs no call (docs/SPEED.md).
-ghost use Rattle.std.specs.Prelude.{◌≤◌, ◌≡◌, length};
-ghost use Rattle.phrases.specs.Inner.{OneAhead, SomeAhead, Passes, halves, Fits, Fills};
+ghost use Rattle.std.specs.Prelude.{◌≤◌, ◌≡◌, length, count_by};
+ghost use Rattle.phrases.specs.Inner.{OneAhead, SomeAhead, Passes, even, halves};
 ghost use Rattle.phrases.specs.Promise.{ReadsPhrase};
 
 use lists::{LIST_LIMIT, Numbers};
@@ -13,82 +12,64 @@ use words::Refusal;
 // How deep branches nest.
 const NESTING: u64 = 8;
 
-// Passes the item that begins at the place, in which so many branches may nest: the place behind it, or one past the list's end if there is none.
+// Passes the item that begins at the place, in which so many branches may nest: the place behind it, if there is one. An empty branch has a test of
+// its own, so that it costs no call.
 #[cycle(item_items)]
-fn item(numbers: &[u64], at: usize, depth: u64) -> usize
+fn item(numbers: &[u64], at: usize, depth: u64) -> Option<usize>
     ensures { Passes (OneAhead depth) numbers.now at result }
 {
-    let none = numbers.len() + 1;
-    if numbers.len() <= at {
-        return none;
-    }
-    let n = numbers[at];
-    let odd = n % 2;
+    let n = *numbers.get(at)?;
     let next = at + 1;
-    if odd < 1 {
-        return next;
+    if n % 2 == 0 {
+        return Some(next);
     }
-    if depth < 1 {
-        return none;
-    }
+    let inside = depth.checked_sub(1)?;
     let count = n / 2;
-    if count < 1 {
-        return next;
+    if count == 0 {
+        return Some(next);
     }
-    let inside = depth - 1;
     items(numbers, next, inside, count)
 }
 
 // Passes so many items, one after another, the first of which begins at the place. However many are promised, they end with the list.
 #[cycle(item_items)]
-fn items(numbers: &[u64], first: usize, depth: u64, count: u64) -> usize
+fn items(numbers: &[u64], first: usize, depth: u64, count: u64) -> Option<usize>
     requires { first ≤ length numbers.now }
     ensures { Passes (SomeAhead depth count) numbers.now first result }
 {
     let mut at = first;
-    let mut left = count;
-    while 0 < left {
-        left -= 1;
-        at = item(numbers, at, depth);
-        if numbers.len() < at {
-            return at;
-        }
+    for _ in 0..count {
+        at = item(numbers, at, depth)?;
     }
-    at
+    Some(at)
 }
 
-// How many leaves a list has.
+// How many leaves a list has. A loop, of which LLVM makes one without a branch: of `filter` and `count` it makes one that has to guess.
 fn leaves(numbers: &[u64]) -> usize
-    ensures { result ≡ length (halves numbers.now) }
+    ensures { result ≡ count_by even numbers.now }
 {
-    let mut at: usize = 0;
-    let mut count: usize = 0;
-    while at < numbers.len() {
-        let n = numbers[at];
-        let odd = n % 2;
-        let even = 1 - odd;
-        at += 1;
-        count += even as usize;
+    let mut count = 0;
+    for n in numbers {
+        if *n % 2 == 0 {
+            count += 1;
+        }
     }
     count
 }
 
-// Stores the sentences of so many leaves, which are all of them, at the front of a slice that has room for them. Half of a branch's number is stored
-// too, where the next leaf's sentence then goes: so nothing has to be guessed.
-fn fill(numbers: &[u64], sentences: &mut [u64], count: usize)
-    requires { Fits numbers.now sentences.old count }
-    ensures { Fills numbers.now sentences.old sentences.new }
+// Stores the sentences of the leaves, for all of which the slice just has room. Half of a branch's number is stored too, where the next leaf's
+// sentence then goes: so nothing has to be guessed.
+fn fill(numbers: &[u64], sentences: &mut [u64])
+    requires { length sentences.old ≡ count_by even numbers.now }
+    ensures { sentences.new ≡ halves numbers.now }
 {
-    let mut at: usize = 0;
-    let mut filled: usize = 0;
-    while filled < count {
-        let n = numbers[at];
-        let odd = n % 2;
-        let even = 1 - odd;
-        let half = n / 2;
-        sentences[filled] = half;
-        at += 1;
-        filled += even as usize;
+    let mut filled = 0;
+    for n in numbers {
+        if filled == sentences.len() {
+            return;
+        }
+        sentences[filled] = n / 2;
+        filled += (1 - n % 2) as usize;
     }
 }
 
@@ -100,17 +81,13 @@ pub fn read_phrase(numbers: &[u64], sentences: &mut [u64]) -> Result<Numbers, Re
     if LIST_LIMIT < numbers.len() {
         return Err(Refusal::TooLong);
     }
-    let behind = items(numbers, 0, NESTING, 1);
-    if behind < numbers.len() {
-        return Err(Refusal::Tree);
-    }
-    if numbers.len() < behind {
+    if items(numbers, 0, NESTING, 1) != Some(numbers.len()) {
         return Err(Refusal::Tree);
     }
     let count = leaves(numbers);
     if sentences.len() < count {
         return Err(Refusal::NoRoom);
     }
-    fill(numbers, sentences, count);
+    fill(numbers, &mut sentences[..count]);
     Ok(Numbers(count))
 }

@@ -1,19 +1,19 @@
 -- How many bytes are below 128. `lows` counts them.
 --
---   lows_low, lows_high   from a place of the block on: one more than behind it, where the byte there is below 128; as many, where it is not
---   lows_take             what makes all with those behind a place is those before it
 --   number_closed         where a number is read, its last byte is there
 --   lows_left             from a place on: as many as numbers stand from there to another, and those behind that
 --   lows_whole            of a block of numbers: as many as numbers
 --   lows_part             before a place up to which numbers stand: as many as they are
 use Prim.Native.Nat.{ℕ, suc, ◌+◌, ◌≤◌, ◌<◌}
-use mathlib.Core.Path.{◌≡◌, ap, sym, ◌∙◌}
-use mathlib.Core.List.{List, [], ◌∷◌, ◌++◌}
-use native.Mathlib.Numerals.{add-one}
+use mathlib.Core.Path.{◌≡◌, refl, ap, sym, ◌∙◌}
+use mathlib.Core.Bool.{cond}
+use native.Mathlib.Nat.{zero-add}
+use mathlib.Core.List.{List, [], ◌∷◌}
 use native.Mathlib.Omega.{arith}
 use borrow.Author.Tests.{lt-ltb, le-ltb, lt-leb}
 use lib.ListN.{length, get_or, take, drop, take-append-drop}
-use lib.Seq.{drop-cons, drop-drop, drop-length}
+use lib.Seq.{drop-drop, drop-length}
+use Rattle.std.proofs.lemmas.List.Sums.{sum_by-cons, sum_by-append}
 use Rattle.words.specs.Answer.{gives}
 use Rattle.words.proofs.Cases.{by_order}
 use Rattle.words.proofs.OneMeaning.{apart}
@@ -23,33 +23,18 @@ use Rattle.groups.proofs.Run.{run_low, run_high, run_within, in_run}
 use Rattle.groups.proofs.Rows.{row_end, row_large}
 use Rattle.groups.proofs.Stands.{reading_count}
 use Rattle.uleb128.specs.Unsigned.{u64}
-use Rattle.lists.specs.InnerLeft.{Left, done, one, lows}
+use Rattle.lists.specs.InnerLeft.{Left, done, one, ends, lows}
+
+-- what a byte counts
+abbrev ending : ℕ → ℕ
+ending b = cond (ends b) 1 0
 
 -- a byte in front
-low_front : (b : ℕ) (l : List ℕ) → b < 128 → lows (b ∷ l) ≡ suc (lows l)
-unfolding lows
-low_front b l h = rw (lt-ltb b 128 h)
+low_front : (b : ℕ) (l : List ℕ) → b < 128 → lows (b ∷ l) ≡ 1 + lows l
+low_front b l h = sum_by-cons ending b l ∙ rw (lt-ltb b 128 h) refl
 
 high_front : (b : ℕ) (l : List ℕ) → 128 ≤ b → lows (b ∷ l) ≡ lows l
-unfolding lows
-high_front b l h = rw (le-ltb b 128 h)
-
-module _ (s : List ℕ) (at : ℕ) (h : at < length s) where
-  pub lows_low : get_or s at 0 < 128 → lows (drop at s) ≡ 1 + lows (drop (at + 1) s)
-  lows_low o = rw (add-one at, drop-cons s at 0 h) (low_front (get_or s at 0) (drop (suc at) s) o ∙ omega arith)
-
-  pub lows_high : 128 ≤ get_or s at 0 → lows (drop at s) ≡ lows (drop (at + 1) s)
-  lows_high o = rw (add-one at, drop-cons s at 0 h) (high_front (get_or s at 0) (drop (suc at) s) o)
-
-lows_append : (g t : List ℕ) → lows (g ++ t) ≡ lows g + lows t
-unfolding lows
-lows_append [] t = omega arith
-lows_append (b ∷ g) t =
-    by_order b 128 (λ h. rw (low_front b (g ++ t) h, low_front b g h) (omega (arith, lows_append g t)))
-    (λ h. rw (high_front b (g ++ t) h, high_front b g h) (lows_append g t))
-
-pub lows_take : (s : List ℕ) (to : ℕ) {n : ℕ} → n + lows (drop to s) ≡ lows s → n ≡ lows (take to s)
-lows_take s to e = omega (arith, lows_append (take to s) (drop to s), ap lows (take-append-drop to s))
+high_front b l h = sum_by-cons ending b l ∙ rw (le-ltb b 128 h) (zero-add (lows l))
 
 -- a group has one byte below 128, its last
 lows_group : (l : List ℕ) → run l < length l → lows l ≡ 1 + lows (drop (run l + 1) l)
@@ -80,8 +65,7 @@ lows_left {s} (one {at} {v} {n} e l) =
     omega (arith, lows_left l, ap lows d)
 
 pub lows_part : {s : List ℕ} {mid : ℕ} {vs : List ℕ} → Left s mid 0 vs → lows (take mid s) ≡ length vs
-lows_part {s} {mid} l = sym (lows_take s mid (sym (lows_left l)))
+lows_part {s} {mid} l = omega (arith, lows_left l, sum_by-append ending (take mid s) (drop mid s), ap lows (take-append-drop mid s))
 
 pub lows_whole : {s : List ℕ} {vs : List ℕ} → Left s (length s) 0 vs → lows s ≡ length vs
-unfolding lows
 lows_whole {s} l = omega (arith, lows_left l, ap lows (drop-length s))

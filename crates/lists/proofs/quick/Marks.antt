@@ -11,15 +11,12 @@
 --   all_later, all_early      with all places behind the first nine judged, none is marked; nor with all of the first nine
 --   none_marked               so a block is clean whose last byte is below 128
 use Prim.Native.Nat.{ℕ, ◌+◌, ◌-◌, ◌/◌, ◌^◌, ◌≤◌, ◌<◌}
-use mathlib.Core.Path.{◌≡◌, ap, ap₂, ◌∙◌, subst}
+use mathlib.Core.Path.{◌≡◌, ap₂, ◌∙◌, subst}
 use mathlib.Core.List.{List}
-use mathlib.Core.Bool.{Bool, true, false, not}
 use native.Mathlib.Omega.{arith}
 use lib.Bits.{bit_and, bit_or, and_shr, or_add_and, and_le_l, and_le_r}
 use lib.ListN.{length, get_or}
 use Rattle.words.proofs.Cases.{by_order}
-use Rattle.bits.specs.Macros.{is_high_8_bit_set_lem}
-use Rattle.bits.proofs.HighBit.{bit_clear}
 use Rattle.groups.specs.Group.{Bytes}
 use Rattle.lists.specs.InnerSound.{High9, Spare, Large, Unmarked, UnmarkedEarly, Clean}
 
@@ -97,9 +94,8 @@ pub all_early : {s : List ℕ} {to marks k : ℕ} → (to ≤ length s) × (to �
 all_early {to = to} t g h low j from nine l =
     g.unmarked low j from (by_order to 9 (λ few. omega (arith, t.2 few)) (λ all. omega arith))
 
-pub none_marked : {s : List ℕ} {tail marked : Bool} {later early marks : ℕ} → tail ≡ is_high_8_bit_set_lem (get_or s (length s - 1) 0) → tail ≡ false
-    → (later < 128 → Unmarked s) → (early < 128 → UnmarkedEarly s) → (later ≤ marks) × (early ≤ marks)
-    → marked ≡ is_high_8_bit_set_lem marks → not marked ≡ true → Clean s
-none_marked {marks = marks} last low f g most told none =
-    let h : marks < 128 = bit_clear told none in
-    record { ended = λ here. bit_clear last (ap not low); later = f (omega (arith, most.0)); early = g (omega (arith, most.1)) }
+pub none_marked : {s : List ℕ} {later early : ℕ} → (later < 128 → Unmarked s) → (early < 128 → UnmarkedEarly s) → get_or s (length s - 1) 0 < 128
+    → bit_or later early < 128 → Clean s
+none_marked {later = later} {early = early} f g ended low =
+    let most = or_most later early in
+    record { ended = λ here. ended; later = f (omega (arith, most.0)); early = g (omega (arith, most.1)) }

@@ -134,6 +134,6 @@ pub(crate) fn fill(s: &[u8], numbers: &mut [u64], count: usize)
     ensures { AllStored s.now numbers.old numbers.new }
 {
     let mid = start_before(s, s.len() / 2);
-    let half = low_bytes(s, mid);
+    let half = low_bytes(&s[..mid]);
     fill_halves(s, numbers, mid, half, count);
 }

@@ -3,26 +3,18 @@
 ghost use Rattle.std.specs.Prelude.{◌≡◌, true, ◌+◌, ◌≤◌, ◌<◌, length};
 ghost use Rattle.lists.specs.InnerSound.{High9, Unmarked, UnmarkedEarly, Clean};
 
-use bits::is_high_8_bit_set;
-
 // Marked if the byte is above 1. A comparison and a choice of two numbers is one operation on sixteen bytes.
 fn over(b: u8) -> u8
     ensures { 1 < b → 128 ≤ result }
 {
-    if 1 < b {
-        return 128;
-    }
-    0
+    if 1 < b { 128 } else { 0 }
 }
 
 // Marked if the byte is 0: likewise.
 fn zero(b: u8) -> u8
     ensures { b ≡ 0 → 128 ≤ result }
 {
-    if b < 1 {
-        return 128;
-    }
-    0
+    if b == 0 { 128 } else { 0 }
 }
 
 // Marked if the byte is 0 behind a byte of 128 or more, or above 1 behind nine bytes all of which have the bits of `nine`, that of 128 too.
@@ -46,44 +38,24 @@ fn shared(s: &[u8], k: usize) -> u8
 }
 
 // The marks of all bytes behind the first nine, joined. One loop that stores nothing and leaves nowhere early: LLVM takes sixteen places in a turn.
+// Over `array_windows` it takes them too, but of a short block fewer: a block of forty bytes then takes half as long again.
 fn later(s: &[u8]) -> u8
     ensures { result < 128 → Unmarked s.now }
 {
-    let mut marks: u8 = 0;
-    let mut k: usize = 9;
-    while k < s.len() {
-        let from = k - 9;
-        let before = k - 1;
-        let nine = shared(s, from);
-        let m = mark(nine, s[before], s[k]);
-        marks = marks | m;
-        k += 1;
+    let mut marks = 0;
+    for k in 9..s.len() {
+        marks |= mark(shared(s, k - 9), s[k - 1], s[k]);
     }
     marks
-}
-
-// The lesser of a number and nine: asked once, so that the loop below has one test.
-fn nine_at_most(n: usize) -> usize
-    ensures { (result ≤ n) × (result ≤ 9) × (result < 9 → result ≡ n) }
-{
-    if 9 < n {
-        return 9;
-    }
-    n
 }
 
 // The marks of the first nine bytes, which have no nine before them: none is too large. Eight turns at most, apart from the long loop.
 fn early(s: &[u8]) -> u8
     ensures { result < 128 → UnmarkedEarly s.now }
 {
-    let to = nine_at_most(s.len());
-    let mut marks: u8 = 0;
-    let mut k: usize = 1;
-    while k < to {
-        let before = k - 1;
-        let m = s[before] & zero(s[k]);
-        marks = marks | m;
-        k += 1;
+    let mut marks = 0;
+    for k in 1..s.len().min(9) {
+        marks |= s[k - 1] & zero(s[k]);
     }
     marks
 }
@@ -93,16 +65,8 @@ fn early(s: &[u8]) -> u8
 pub(crate) fn clean(s: &[u8]) -> bool
     ensures { result ≡ true → Clean s.now }
 {
-    let n = s.len();
-    if n < 1 {
+    let Some(last) = s.last() else {
         return true;
-    }
-    let last = n - 1;
-    let tail = is_high_8_bit_set(s[last]);
-    if tail {
-        return false;
-    }
-    let marks = later(s) | early(s);
-    let marked = is_high_8_bit_set(marks);
-    !marked
+    };
+    *last < 128 && (later(s) | early(s)) < 128
 }

@@ -1,28 +1,34 @@
 -- `item` and `items` meet their contracts, a law for each return.
 use Rattle.std.proofs.Common.{arith}
-use Rattle.phrases.proofs.Passing.{at_end, at_leaf, at_bottom, at_branch, at_empty, one_passed, none_left, no_item_left}
+use Rattle.phrases.proofs.Passing.{at_end, at_leaf, at_bottom, at_branch, at_empty, none_done, one_done, all_done, no_item_left}
 use Rattle.phrases.proofs.reading.+item_items.Goals as goal
 
-pub item-returns-then-numbers-at : goal.item-returns-then-numbers-at
-item-returns-then-numbers-at t c = at_end _ _ _ c.if-numbers-at.true
+pub item-returns-in_err-n : goal.item-returns-in_err-n
+item-returns-in_err-n t c = rw c.from_residual.ensures (at_end _ (omega (arith, c.in_err-n.ensures.lookup)))
 
-pub item-returns-then-odd-lt1 : goal.item-returns-then-odd-lt1
-item-returns-then-odd-lt1 t c = at_leaf _ _ _ c.if-numbers-at.false c.if-odd-lt1.true
+pub item-returns-then-n-eq0 : goal.item-returns-then-n-eq0
+item-returns-then-n-eq0 t c = let h = c.in_ok-n.ensures.lookup in at_leaf _ h.3.0 (h.3.1 0) (omega arith)
 
-pub item-returns-then-depth-lt1 : goal.item-returns-then-depth-lt1
-item-returns-then-depth-lt1 t c = at_bottom _ _ _ c.if-numbers-at.false c.if-odd-lt1.false c.if-depth-lt1.true
+pub item-returns-in_err-inside : goal.item-returns-in_err-inside
+item-returns-in_err-inside t c =
+    let h = c.in_ok-n.ensures.lookup in
+    rw c.from_residual-in_err-inside.ensures (at_bottom _ h.3.0 (h.3.1 0) (omega arith) (omega (arith, c.in_err-inside.ensures)))
 
-pub item-returns-then-count-lt1 : goal.item-returns-then-count-lt1
-item-returns-then-count-lt1 t c = at_empty _ _ _ c.if-numbers-at.false c.if-odd-lt1.false c.if-depth-lt1.false c.if-count-lt1.true
+pub item-returns-then-count-eq0 : goal.item-returns-then-count-eq0
+item-returns-then-count-eq0 t c =
+    let h = c.in_ok-n.ensures.lookup in at_empty _ h.3.0 (h.3.1 0) {inside = c.in_ok-inside.inside} (omega arith) (omega (arith, c.in_ok-inside.ensures)) (omega arith)
 
 pub item-returns : goal.item-returns
-item-returns t c = at_branch _ _ _ c.if-numbers-at.false c.if-odd-lt1.false c.if-depth-lt1.false c.items.ensures
+item-returns t c = let h = c.in_ok-n.ensures.lookup in at_branch _ h.3.0 (h.3.1 0) (omega arith) (omega (arith, c.in_ok-inside.ensures)) c.items.ensures
 
-pub items-returns-then-numbers-at : goal.items-returns-then-numbers-at
-items-returns-then-numbers-at t c = no_item_left c.item-at.ensures c.loop-left.invariant c.loop-left-test.true c.if-numbers-at.true
+pub items-returns-in_err-at : goal.items-returns-in_err-at
+items-returns-in_err-at t c = rw c.from_residual.ensures (no_item_left c.loop.invariant c.loop-test.true c.in_err-at.ensures)
 
-pub items-loop-left-preserved : goal.items-loop-left-preserved
-items-loop-left-preserved t c = one_passed c.item-at.ensures c.loop-left.invariant c.loop-left-test.true c.if-numbers-at.false
+pub items-loop-preserved : goal.items-loop-preserved
+items-loop-preserved t c = one_done c.loop.invariant c.loop-test.true c.in_ok-at.ensures
 
 pub items-returns : goal.items-returns
-items-returns t c = none_left c.loop-left.invariant (omega arith)
+items-returns t c = all_done c.loop.invariant (omega arith)
+
+pub items-loop-init : goal.items-loop-init
+items-loop-init t c = none_done _ _ _ _ c.requires

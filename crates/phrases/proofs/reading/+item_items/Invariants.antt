@@ -10,8 +10,5 @@ decreases-item l = l.depth * 18446744073709551616
 abbrev pub decreases-items : goal.decreases-items
 decreases-items l = l.depth * 18446744073709551616 + l.count
 
-abbrev pub invariant-items-loop-left : goal.invariant-items-loop-left
-invariant-items-loop-left l = ItemsLeft l.depth l.count l.numbers l.first l.at l.left
-
-abbrev pub decreases-items-loop-left : goal.decreases-items-loop-left
-decreases-items-loop-left l = l.left
+abbrev pub invariant-items-loop : goal.invariant-items-loop
+invariant-items-loop l = ItemsLeft l.depth l.count l.numbers l.first l.at l.counter

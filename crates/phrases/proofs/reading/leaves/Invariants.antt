@@ -1,10 +1,8 @@
--- What the loop of `leaves` holds: the halves that are counted and those that are left are all of them. Each number takes it on by one.
-use Rattle.std.proofs.Common.{◌-◌, length}
-use Rattle.phrases.proofs.HalvesLoop.{Counted}
+-- What the loop of `leaves` holds: the leaves of the numbers so far are counted.
+use Rattle.std.proofs.Common.{◌≡◌, take}
+use Rattle.std.specs.List.{count_by}
+use Rattle.phrases.specs.Inner.{even}
 use Rattle.phrases.proofs.reading.leaves.Given as goal
 
-abbrev pub invariant-loop-at : goal.invariant-loop-at
-invariant-loop-at l = Counted l.numbers l.at l.count
-
-abbrev pub decreases-loop-at : goal.decreases-loop-at
-decreases-loop-at l = length l.numbers - l.at
+abbrev pub invariant-loop-n : goal.invariant-loop-n
+invariant-loop-n l = l.count ≡ count_by even (take l.n-index l.numbers)

@@ -1,10 +1,7 @@
--- What `lists::few`'s loop holds: `Counted`.
-use Rattle.std.proofs.Common.{◌-◌}
-use Rattle.lists.proofs.quick.CountLoop.{Counted}
+-- What the loop of `few` holds: those so far are counted.
+use Rattle.std.proofs.Common.{◌≡◌, take}
+use Rattle.lists.specs.InnerLeft.{lows}
 use Rattle.lists.proofs.quick.lows.few.Given as goal
 
-abbrev pub invariant-loop-i : goal.invariant-loop-i
-invariant-loop-i l = Counted l.s l.from l.to l.n l.i
-
-abbrev pub decreases-loop-i : goal.decreases-loop-i
-decreases-loop-i l = l.to - l.i
+abbrev pub invariant-loop-b : goal.invariant-loop-b
+invariant-loop-b l = l.count ≡ lows (take l.b-index l.part)

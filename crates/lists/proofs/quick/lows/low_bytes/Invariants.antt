@@ -1,10 +1,8 @@
--- What `lists::low_bytes`'s loop holds: `Counted`, from the front on.
-use Rattle.std.proofs.Common.{◌-◌}
-use Rattle.lists.proofs.quick.CountLoop.{Counted}
+-- What the loop of `low_bytes` holds: what is counted and what is left are all.
+use Rattle.std.proofs.Common.{◌≡◌, ◌+◌}
+use Rattle.std.specs.Slice.Iter.{chunks_rest, chunks_size}
+use Rattle.lists.specs.InnerLeft.{lows}
 use Rattle.lists.proofs.quick.lows.low_bytes.Given as goal
 
-abbrev pub invariant-loop-at : goal.invariant-loop-at
-invariant-loop-at l = Counted l.s 0 l.to l.n l.at
-
-abbrev pub decreases-loop-at : goal.decreases-loop-at
-decreases-loop-at l = l.to - l.at
+abbrev pub invariant-loop-part : goal.invariant-loop-part
+invariant-loop-part l = (chunks_size l.part-iterator ≡ 128) × (l.n + lows (chunks_rest l.part-iterator) ≡ lows l.s)

@@ -1,8 +1,8 @@
 -- `lists::clean` keeps what it promises inside the crate: a law of `Marks`.
-use Rattle.lists.proofs.quick.Marks.{none_marked, or_most}
+use Rattle.std.proofs.Common.{arith}
+use Rattle.std.proofs.lemmas.Bool.{ltb-true}
+use Rattle.lists.proofs.quick.Marks.{none_marked}
 use Rattle.lists.proofs.quick.sound.clean.Goals as goal
 
-pub returns : goal.returns
-returns c =
-    none_marked c.is_high_8_bit_set-tail.ensures c.if-tail.false c.later.ensures c.early.ensures (or_most _ _)
-    c.is_high_8_bit_set-marked.ensures
+pub returns-then-last-lt128 : goal.returns-then-last-lt128
+returns-then-last-lt128 c = let h = c.in-Some.ensures.item in λ low. none_marked c.later.ensures c.early.ensures (omega (arith, h.3.1 0)) (ltb-true _ _ low)

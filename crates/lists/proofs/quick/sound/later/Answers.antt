@@ -3,4 +3,4 @@ use Rattle.lists.proofs.quick.Marks.{one_judged, low_mark, or_most}
 use Rattle.lists.proofs.quick.sound.later.Goals as goal
 
 pub loop-k-preserved : goal.loop-k-preserved
-loop-k-preserved c = one_judged c.loop-k.invariant (low_mark _ _ c.shared-nine.ensures c.mark-m.ensures) (or_most _ _)
+loop-k-preserved c = one_judged c.loop-k.invariant (low_mark _ _ c.shared.ensures c.mark-marks.ensures) (or_most _ _)

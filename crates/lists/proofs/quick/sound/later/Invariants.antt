@@ -1,10 +1,6 @@
 -- What `lists::later`'s loop holds: the bytes behind the first nine up to here are judged.
-use Rattle.std.proofs.Common.{◌-◌, length}
 use Rattle.lists.proofs.quick.Marks.{Neither, Judged}
 use Rattle.lists.proofs.quick.sound.later.Given as goal
 
 abbrev pub invariant-loop-k : goal.invariant-loop-k
 invariant-loop-k l = Judged (Neither l.s) 9 l.marks l.k
-
-abbrev pub decreases-loop-k : goal.decreases-loop-k
-decreases-loop-k l = length l.s - l.k
