@@ -9,7 +9,6 @@ use Rattle.words.proofs.OneNumber.{refusal_of, refusal_back}
 use Rattle.words.proofs.OneMeaning.{same_by}
 use Rattle.lists.specs.Promise.{means_read_list}
 use Rattle.lists.specs.declared.NotRead.TheVariants as L
-use Rattle.std.specs.Prelude.{Result, Ok, Err}
 use Rattle.lists.specs.declared.Numbers.{Numbers}
 use Rattle.lists.specs.declared.NotRead.{NotRead}
 
@@ -23,5 +22,5 @@ same_list = same_by means_read_list back is
 
     is : (r : Result Numbers NotRead) → back (means_read_list r) ≡ r
     is (Ok n) = refl
-    is (Err (L.Faulty (record { 0 = a; 1 = p }))) = rw (refusal_back a)
+    is (Err (L.Faulty fault)) = rw (refusal_back fault.0)
     is (Err (L.Refused a)) = rw (refusal_back a)

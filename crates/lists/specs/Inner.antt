@@ -8,11 +8,11 @@
 --   means_scanned      what the first pass's answer says
 --   Scans s r          r says how many numbers the block s has, or its first fault
 use Rattle.std.specs.Prelude.{ℕ, ◌≤◌, ◌<◌, List, ◌∷◌, ◌≡◌, length, drop, Result, Ok, Err}
-use Rattle.words.specs.Answer.{Answer, gives, refused, because_at}
+use Rattle.words.specs.Answer.{Answer, gives, refused, because_of}
+use Rattle.words.specs.declared.Fault.{Fault}
 use Rattle.blocks.specs.Block.{block_limit}
 use Rattle.blocks.specs.GroupsAndTail.{Start}
 use Rattle.lists.specs.Strict.{numbers}
-use Rattle.words.specs.declared.Fault.{Fault}
 
 abbrev pub number_ahead : ℕ → Answer (List ℕ) → Answer (List ℕ)
 number_ahead v (gives ns) = gives (v ∷ ns)
@@ -34,11 +34,11 @@ pub record Behind (s : List ℕ) (p v q : ℕ) : Type 0 where
 
 abbrev pub Passes : List ℕ → ℕ → Result (ℕ × ℕ) Fault → Type 0
 Passes s p (Ok (v, q)) = Behind s p v q
-Passes s p (Err (record { 0 = why; 1 = at })) = numbers p (drop p s) ≡ refused (because_at why at.0)
+Passes s p (Err fault) = numbers p (drop p s) ≡ refused (because_of fault)
 
 abbrev pub means_scanned : Result ℕ Fault → Answer ℕ
 means_scanned (Ok n) = gives n
-means_scanned (Err (record { 0 = why; 1 = at })) = refused (because_at why at.0)
+means_scanned (Err fault) = refused (because_of fault)
 
 pub record Scans (s : List ℕ) (r : Result ℕ Fault) : Type 0 where
   pub is : means_scanned r ≡ many (numbers 0 s)

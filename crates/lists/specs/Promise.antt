@@ -4,7 +4,7 @@
 --   means_read_list   what strict reading's answer says
 --   ReadsStrict       strict reading of the block s into the slice old answers r and leaves out
 use Rattle.std.specs.Prelude.{ℕ, List, ◌≡◌, ltb, length, Result, Ok, Err}
-use Rattle.words.specs.Answer.{pick, refused, means_written, Answer, gives, by, because, because_at, Written}
+use Rattle.words.specs.Answer.{pick, refused, means_written, Answer, gives, by, because, because_of, Written}
 use Rattle.words.specs.Lays.{writing, laid}
 use Rattle.lists.specs.Lists.{forms, list_limit}
 use Rattle.lists.specs.Strict.{strict, filled}
@@ -18,7 +18,7 @@ pub record WritesList (ns s : List ℕ) (at : ℕ) (r : Written) (out : List ℕ
 
 abbrev pub means_read_list : Result Numbers NotRead → Answer ℕ
 means_read_list (Ok n) = gives n.0
-means_read_list (Err (Faulty (record { 0 = r; 1 = at }))) = refused (because_at r at.0)
+means_read_list (Err (Faulty fault)) = refused (because_of fault)
 means_read_list (Err (Refused r)) = refused (because r)
 
 pub record ReadsStrict (s old : List ℕ) (r : Result Numbers NotRead) (out : List ℕ) : Type 0 where

@@ -11,40 +11,20 @@ use blocks::{BLOCK_LIMIT, Cursor, Rule, Step};
 use groups::Value;
 use words::{Fault, Place, Refusal};
 
-// A group's number with the place behind it, or the fault there with the place of the byte that decided it.
-#[derive(Clone, Copy)]
-enum Passed {
-    Number(u64, usize),
-    Fault(Refusal, Place),
-}
-
-// How many numbers a block has, or its first fault.
-#[derive(Clone, Copy)]
-enum Scanned {
-    Count(usize),
-    Fault(Refusal, Place),
-}
-
-// What stands at a start before the block's end. From there no step by the unsigned rule says a signed number, that it is
-// finished, or that it refuses; those arms are never taken.
+// The number that stands at a start before the block's end, with the place behind it; or the fault there. From there no step by the unsigned
+// rule says a signed number, that it is finished, or that it refuses.
 fn pass(block: &[u8], at: usize) -> Result<(u64, usize), Fault>
     requires { StartsBefore block.now at }
     ensures { Passes block.now at result }
 {
     let cursor = Cursor { place: Place(at) };
     match cursor.step(block, Rule::Unsigned) {
-        Ok(Step::Number(value, _, next)) => {
-            let place = next.place;
-            let behind = place.0;
-            match value {
-                Value::Unsigned(v) => Ok((v, behind)),
-                Value::Signed(_) => Err(Fault(Refusal::Overflow, Place(at))),
-            }
-        }
-        Ok(Step::Gap(Fault(refusal, place), _, _)) => Err(Fault(refusal, place)),
+        Ok(Step::Number(Value::Unsigned(v), _, next)) => Ok((v, next.place.0)),
+        Ok(Step::Gap(fault, _, _)) => Err(fault),
         Ok(Step::Tail(_, _)) => Err(Fault(Refusal::End, Place(block.len()))),
-        Ok(Step::Finished(_)) => Err(Fault(Refusal::End, Place(at))),
-        Err(refusal) => Err(Fault(refusal, Place(at))),
+        Ok(Step::Number(Value::Signed(_), _, _)) => unreachable!(),
+        Ok(Step::Finished(_)) => unreachable!(),
+        Err(_) => unreachable!(),
     }
 }
 
@@ -56,15 +36,9 @@ fn scan(block: &[u8]) -> Result<usize, Fault>
     let mut at: usize = 0;
     let mut count: usize = 0;
     while at < block.len() {
-        match pass(block, at) {
-            Ok((_, behind)) => {
-                at = behind;
-                count += 1;
-            }
-            Err(Fault(refusal, place)) => {
-                return Err(Fault(refusal, place));
-            }
-        }
+        let (_, behind) = pass(block, at)?;
+        at = behind;
+        count += 1;
     }
     Ok(count)
 }
@@ -74,10 +48,8 @@ fn measure(block: &[u8]) -> Result<usize, Fault>
     requires { length block.now ≤ block_limit }
     ensures { Scans block.now result }
 {
-    let sound = clean(block);
-    if sound {
-        let count = low_bytes(block);
-        return Ok(count);
+    if clean(block) {
+        return Ok(low_bytes(block));
     }
     scan(block)
 }
@@ -91,15 +63,9 @@ pub fn read_strict(block: &[u8], numbers: &mut [u64]) -> Result<Numbers, NotRead
     if BLOCK_LIMIT < block.len() {
         return Err(NotRead::Refused(Refusal::TooLong));
     }
-    match measure(block) {
-        Ok(count) => {
-            if numbers.len() < count {
-                return Err(NotRead::Refused(Refusal::NoRoom));
-            }
-            fill(block, numbers, count);
-            Ok(Numbers(count))
-        }
-        Err(Fault(refusal, place)) => Err(NotRead::Faulty(Fault(refusal, place))),
+    let count = measure(block)?;
+    if numbers.len() < count {
+        return Err(NotRead::Refused(Refusal::NoRoom));
     }
     fill(block, numbers, count);
     Ok(Numbers(count))

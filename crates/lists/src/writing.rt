@@ -57,8 +57,8 @@ fn put(v: u64, buffer: &mut [u8], at: usize) -> usize
     last + 1
 }
 
-// Lays the numbers' forms down at a place where there is room for them.
-fn lay(numbers: &[u64], buffer: &mut [u8], at: usize) -> Result<Count, Refusal>
+// Lays the numbers' forms down at a place where there is room for them, and answers the count of bytes.
+fn lay(numbers: &[u64], buffer: &mut [u8], at: usize) -> Count
     requires { at + length (forms numbers.now) ≤ length buffer.old }
     ensures { Lays (forms numbers.now) buffer.old at (Ok result) buffer.new }
 {
@@ -66,8 +66,7 @@ fn lay(numbers: &[u64], buffer: &mut [u8], at: usize) -> Result<Count, Refusal>
     for &v in numbers {
         to = put(v, buffer, to);
     }
-    let n = to - at;
-    Ok(Count(n))
+    Count(to - at)
 }
 
 // Lays the numbers' forms down one after another at the place and answers the count of bytes: else 7 or 5, and no byte is changed.
@@ -77,8 +76,7 @@ pub fn write_list(numbers: &[u64], buffer: &mut [u8], place: Place) -> Result<Co
     if LIST_LIMIT < numbers.len() {
         return Err(Refusal::TooLong);
     }
-    let room = list_fits(numbers, buffer.len(), place);
-    if !room {
+    if !list_fits(numbers, buffer.len(), place) {
         return Err(Refusal::NoRoom);
     }
     Ok(lay(numbers, buffer, place.0))
