@@ -19,11 +19,9 @@ use mathlib.Core.Bool.{true, false}
 use native.Mathlib.Omega.{arith}
 use borrow.Author.Tests.{lt-ltb, le-ltb, le-leb, lt-leb, eq-eqb, ne_eqb}
 use lib.ListN.{length, take, drop, length-drop}
-use Rattle.std.specs.Prelude.{Result, Ok, Err}
 use Rattle.words.specs.Answer.{gives}
 use Rattle.words.specs.declared.Count.{Count}
 use Rattle.words.specs.declared.Refusal.TheVariants.{TooLong, Place, NotAStart, NoStart}
-use Rattle.words.specs.declared.Refusal.{Refusal}
 use Rattle.groups.specs.Group.{run}
 use Rattle.groups.proofs.Run.{run_within}
 use Rattle.blocks.specs.Block.{is_start_lem, finished, says_by, stepping, setting_down, block_limit}
@@ -33,6 +31,8 @@ use Rattle.blocks.specs.declared.Cursor.{Cursor}
 use Rattle.blocks.specs.declared.Rule.{Rule}
 use Rattle.blocks.specs.declared.Step.{Step}
 use Rattle.blocks.specs.declared.Step.TheVariants as S
+use Rattle.std.specs.Prelude.{Result, Ok, Err}
+use Rattle.words.specs.declared.Refusal.{Refusal}
 
 module _ (rule : Rule) (s : List ℕ) (p : ℕ) where
   pub step_too_long : block_limit < length s → Steps rule s p (Err TooLong)
@@ -107,12 +107,12 @@ module _ (s : List ℕ) (p : ℕ) where
           record { is = rw (le-ltb block_limit (length s) fits, le-ltb (length s) p here, eq-eqb p 0 z) (ap gives (e ∙ z)) }
 
       module _ (some : 1 ≤ p) where
-        pub set_found : (c : Cursor) → c.place.0 ≡ p + run (drop (p - 1) s) → p - 1 + run (drop (p - 1) s) < length s → SetsDown s p (Ok c)
+        pub set_found : (c : Cursor) → c.place.0 ≡ p - 1 + run (drop (p - 1) s) + 1 → p - 1 + run (drop (p - 1) s) < length s → SetsDown s p (Ok c)
         unfolding setting_down
         set_found c e h =
             record {
               is =
-                  rw (le-ltb block_limit (length s) fits, le-ltb (length s) p here, ne_eqb p 0 (λ z. omega arith), lt-ltb _ (length s) h) (ap gives e);
+                  rw (le-ltb block_limit (length s) fits, le-ltb (length s) p here, ne_eqb p 0 (λ z. omega arith), lt-ltb _ (length s) h) (ap gives (e ∙ omega arith));
             }
 
         pub set_none : length s ≤ p - 1 + run (drop (p - 1) s) → SetsDown s p (Err NoStart)

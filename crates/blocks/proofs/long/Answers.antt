@@ -1,8 +1,5 @@
 -- `blocks::long` keeps what it promises inside the crate: by each rule a law of `GroupReading` for a number, and one for a refusal.
-use Rattle.std.specs.Prelude.{ℤ}
 use Rattle.std.proofs.Common.{ℕ, ◌+◌, ◌≤◌, ◌≡◌, List, length, ap, sym, ◌∙◌, arith, rules, Ok}
-use Rattle.words.specs.declared.Count.{Count}
-use Rattle.words.specs.Answer.{Reading, means_read}
 use Rattle.groups.specs.Group.{Bytes}
 use Rattle.groups.proofs.SignedWords.{word_back}
 use Rattle.uleb128.specs.Unsigned.{u64}
@@ -11,12 +8,16 @@ use Rattle.uleb128.proofs.Widths as U
 use Rattle.sleb128.specs.Signed.{i64}
 use Rattle.sleb128.specs.Promise.{ReadsI64}
 use Rattle.sleb128.proofs.Widths as S
+use Rattle.std.specs.Prelude.{ℤ}
+use Rattle.words.specs.declared.Count.{Count}
 use Rattle.blocks.specs.Block.{unsigned, signed, read_by, number}
 use Rattle.blocks.specs.Inner.{standing}
 use Rattle.blocks.specs.declared.Rule.{Rule}
 use Rattle.blocks.specs.declared.Rule.TheVariants.{Unsigned, Signed}
 use Rattle.blocks.proofs.GroupReading.{reads_number, reads_none, decided_high}
 use Rattle.blocks.proofs.long.Goals as goal
+use Rattle.words.specs.Answer.{Reading}
+use Rattle.words.specs.Answer.{means_read}
 
 -- by the unsigned rule
 says_u : (s : List ℕ) (at : ℕ) {rule : Rule} {r : Reading ℕ} (v : ℕ) (n : Count) → Bytes s → rule ≡ Unsigned → ReadsU64 s at r → r ≡ Ok (v, n)
@@ -31,8 +32,8 @@ says_s : (s : List ℕ) (at : ℕ) {rule : Rule} {r : Reading ℤ} (v : ℤ) (n 
 says_s s at v n bytes e read is =
     reads_number _ _ bytes _ signed i64 (λ (g : List ℕ). ap (λ (rule : Rule). read_by rule g) e) S.sound (sym read.is ∙ ap means_read is)
 
-pub past-requires : goal.past-requires
-past-requires c =
+pub overflow_add-at : goal.overflow_add-at
+overflow_add-at c =
     omega (arith, (says_u c.args.block.now c.args.at c.in-Ok.v c.in-Ok.count (λ i. (c.type_inv.block i).fits) c.in-Unsigned.is c.read_u64.ensures c.in-Ok.is).0)
 
 pub unread-requires : goal.unread-requires
@@ -40,16 +41,15 @@ unread-requires c = decided_high _ _ u64 (search rules) c.in-Err.fault.0 _ (sym 
 
 pub returns-in-Ok : goal.returns-in-Ok
 returns-in-Ok c =
-    rw c.past.ensures
-    (sym (says_u c.args.block.now c.args.at c.in-Ok.v c.in-Ok.count (λ i. (c.type_inv.block i).fits) c.in-Unsigned.is c.read_u64.ensures c.in-Ok.is).1)
+    rw c.at.ensures (sym (says_u c.args.block.now c.args.at c.in-Ok.v c.in-Ok.count (λ i. (c.type_inv.block i).fits) c.in-Unsigned.is c.read_u64.ensures c.in-Ok.is).1)
 
 pub returns-in-Err : goal.returns-in-Err
 returns-in-Err c =
     reads_none _ _ (λ i. (c.type_inv.block i).fits) _ unsigned u64 (λ (g : List ℕ). ap (λ (rule : Rule). read_by rule g) c.in-Unsigned.is)
     (search rules) (sym c.read_u64.ensures.is ∙ ap means_read c.in-Err.is) c.unread.ensures
 
-pub past-requires-in-Ok-read_i64 : goal.past-requires-in-Ok-read_i64
-past-requires-in-Ok-read_i64 c =
+pub overflow_add-at-in-Ok-read_i64 : goal.overflow_add-at-in-Ok-read_i64
+overflow_add-at-in-Ok-read_i64 c =
     let w = c.in-Ok-read_i64 in
     omega (arith, (says_s c.args.block.now c.args.at w.v w.count (λ i. (c.type_inv.block i).fits) c.in-Signed.is c.read_i64.ensures w.is).0)
 
@@ -60,7 +60,7 @@ unread-requires-in-Err-read_i64 c =
 pub returns-in-Ok-read_i64 : goal.returns-in-Ok-read_i64
 returns-in-Ok-read_i64 c =
     let w = c.in-Ok-read_i64 in
-    rw (c.past-in-Ok-read_i64.ensures, word_back w.v (search rules))
+    rw (c.at-in-Ok-read_i64.ensures, word_back w.v (search rules))
     (sym (says_s c.args.block.now c.args.at w.v w.count (λ i. (c.type_inv.block i).fits) c.in-Signed.is c.read_i64.ensures w.is).1)
 
 pub returns-in-Err-read_i64 : goal.returns-in-Err-read_i64
