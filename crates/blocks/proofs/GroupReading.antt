@@ -16,6 +16,8 @@ use borrow.Author.Tests.{eq-eqb, ne_eqb}
 use lib.IntN.{ℤ, pos, negsuc}
 use lib.ListN.{length, get_or, take, drop, length-drop}
 use lib.Seq.{get_or-drop, drop-drop, drop-cons, length-take-le}
+use Rattle.std.specs.List.{take_while, slice_range}
+use Rattle.bits.specs.Macros.{is_high_8_bit_set_lem}
 use Rattle.words.specs.Answer.{Answer, gives, refused, Why, because_at, moved}
 use Rattle.words.specs.declared.Refusal.{Refusal}
 use Rattle.words.proofs.Cases.{by_order}
@@ -33,7 +35,7 @@ use Rattle.blocks.specs.Block.{Val, unsigned, signed, Stepped, number, gap, tail
 use Rattle.blocks.specs.Inner.{standing, missing, InRun}
 use Rattle.blocks.specs.declared.Rule.{Rule}
 use Rattle.blocks.specs.declared.Rule.TheVariants.{Unsigned, Signed}
-use Rattle.blocks.proofs.HighRun.{run_inside}
+use Rattle.blocks.proofs.HighRun.{run_taken, run_inside}
 
 valued_moved : {A : Type 0} (f : A → Val) (n : ℕ) (a : Answer (A × ℕ)) → valued f (moved n a) ≡ moved n (valued f a)
 valued_moved f n (gives v) = refl
@@ -98,27 +100,27 @@ pub decided_inside : {s : List ℕ} {p q : ℕ} → InRun s p q → q ≤ length
 decided_inside {s} {p} r = omega (arith, r.high, run_inside s p r.here)
 
 -- the run from the byte that decided it on
-module _ {s : List ℕ} {p q more : ℕ} (r : InRun s p q) (e : more ≡ run (drop q s)) where
+module _ {s : List ℕ} {p q more : ℕ} (r : InRun s p q) (e : more ≡ length (take_while is_high_8_bit_set_lem (slice_range s q (length s)))) where
   run_on : q + more ≡ p + run (drop p s)
   run_on =
       let j : p + (q - p) ≡ q = omega (arith, r.from) in
       let d : drop (q - p) (drop p s) ≡ drop q s = drop-drop (q - p) p s ∙ rw j in
-      omega (arith, r.from, run_drop (drop p s) (q - p) (omega (arith, r.high)), ap run d)
+      omega (arith, r.from, run_drop (drop p s) (q - p) (omega (arith, r.high)), ap run d, e ∙ run_taken s q)
 
   pub run_ends : (p ≤ q + more) × (q + more ≤ length s)
   run_ends = (omega (arith, r.from), omega (arith, run_on, run_inside s p r.here))
 
-  module _ {high : ℕ} (d : high ≡ q + more - p) where
-    pub missing_tail : (k : Why) → length s ≤ q + more → tail high p ≡ missing s p k
-    unfolding missing
-    missing_tail k h =
-        let all : run (drop p s) ≡ length (drop p s) = omega (arith, run_on, run_within (drop p s), length-drop p s) in
-        let n : high ≡ run (drop p s) = omega (arith, run_on) in
-        rw (n, eq-eqb (run (drop p s)) (length (drop p s)) all)
+  pub missing_tail : {n : ℕ} (k : Why) → n ≡ q + more - p → length s ≤ q + more → tail n p ≡ missing s p k
+  unfolding missing
+  missing_tail {n} k d h =
+      let all : run (drop p s) ≡ length (drop p s) = omega (arith, run_on, run_within (drop p s), length-drop p s) in
+      let e : n ≡ run (drop p s) = omega (arith, run_on) in
+      rw (e, eq-eqb (run (drop p s)) (length (drop p s)) all)
 
-    pub missing_gap : {k : Why} {c : ℕ} → q + more < length s → c ≡ p + (high + 1) → gap k (high + 1) c ≡ missing s p k
-    unfolding missing
-    missing_gap h f =
-        let ne : run (drop p s) ≡ length (drop p s) → ⊥ = λ a. omega (arith, run_on, length-drop p s) in
-        let n : high ≡ run (drop p s) = omega (arith, run_on) in
-        rw (f, n, ne_eqb (run (drop p s)) (length (drop p s)) ne)
+  pub missing_gap : {n c : ℕ} {k : Why} → n ≡ c - p → c ≡ q + more + 1 → q + more < length s → gap k n c ≡ missing s p k
+  unfolding missing
+  missing_gap {n} {c} d f h =
+      let ne : run (drop p s) ≡ length (drop p s) → ⊥ = λ a. omega (arith, run_on, length-drop p s) in
+      let e : n ≡ run (drop p s) + 1 = omega (arith, run_on) in
+      let g : c ≡ p + (run (drop p s) + 1) = omega (arith, run_on) in
+      rw (g, e, ne_eqb (run (drop p s)) (length (drop p s)) ne)

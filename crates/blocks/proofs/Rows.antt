@@ -106,12 +106,12 @@ module _ (s : List ℕ) (p : ℕ) where
           record { is = rw (le-ltb block_limit (length s) fits, le-ltb (length s) p here, eq-eqb p 0 z) (ap gives (e ∙ z)) }
 
       module _ (some : 1 ≤ p) where
-        pub set_found : (c : Cursor) → c.place.0 ≡ p + run (drop (p - 1) s) → p - 1 + run (drop (p - 1) s) < length s → SetsDown s p (D.At c)
+        pub set_found : (c : Cursor) → c.place.0 ≡ p - 1 + run (drop (p - 1) s) + 1 → p - 1 + run (drop (p - 1) s) < length s → SetsDown s p (D.At c)
         unfolding setting_down
         set_found c e h =
             record {
               is =
-                  rw (le-ltb block_limit (length s) fits, le-ltb (length s) p here, ne_eqb p 0 (λ z. omega arith), lt-ltb _ (length s) h) (ap gives e);
+                  rw (le-ltb block_limit (length s) fits, le-ltb (length s) p here, ne_eqb p 0 (λ z. omega arith), lt-ltb _ (length s) h) (ap gives (e ∙ omega arith));
             }
 
         pub set_none : length s ≤ p - 1 + run (drop (p - 1) s) → SetsDown s p (D.Refused NoStart)

@@ -3,7 +3,8 @@
 
 ghost use Rattle.std.specs.Prelude.{◌≡◌, ◌+◌, ◌-◌, ◌^◌, ◌<◌, ◌≤◌, [], ◌∷◌, length, drop};
 ghost use Rattle.words.specs.Answer.{gives, because_at};
-ghost use Rattle.groups.specs.Group.{run};
+ghost use Rattle.std.specs.List.{take_while};
+ghost use Rattle.bits.specs.Macros.{is_high_8_bit_set_lem};
 ghost use Rattle.blocks.specs.Block.{is_start_lem, read_by};
 ghost use Rattle.blocks.specs.Inner.{InRun, missing, standing};
 ghost use Rattle.blocks.specs.Promise.{means_value, means_step, Steps, SetsDown};
@@ -52,41 +53,14 @@ fn is_start(block: &[u8], at: usize) -> bool
     requires { at ≤ length block.now }
     ensures { result ≡ is_start_lem block.now at }
 {
-    if at < 1 {
-        return true;
-    }
-    let before = at - 1;
-    let b = block[before];
-    let more = is_high_8_bit_set(b);
-    !more
+    at < 1 || !is_high_8_bit_set(block[at - 1])
 }
 
-// How many bytes of 128 or more stand at the place.
-fn high_run(block: &[u8], at: usize) -> usize
-    requires { at ≤ length block.now }
-    ensures { result ≡ run (drop at block.now) }
+// How many bytes of 128 or more stand at the front.
+fn high_run(bytes: &[u8]) -> usize
+    ensures { result ≡ length (take_while is_high_8_bit_set_lem bytes.now) }
 {
-    let mut place = at;
-    let mut high = 0;
-    while place < block.len() {
-        let b = block[place];
-        let more = is_high_8_bit_set(b);
-        if !more {
-            return high;
-        }
-        high += 1;
-        place += 1;
-    }
-    high
-}
-
-// The cursor past a group of count bytes.
-fn past(at: usize, count: usize) -> Cursor
-    requires { at + count < 2 ^ 64 }
-    ensures { result.place.0 ≡ at + count }
-{
-    let next = at + count;
-    Cursor { place: Place(next) }
+    bytes.iter().take_while(|b| is_high_8_bit_set(**b)).count()
 }
 
 // The number of one byte below 128, by the rule.
@@ -97,23 +71,14 @@ fn alone(rule: Rule, b: u8) -> Value
     match rule {
         Rule::Unsigned => Value::Unsigned(b as u64),
         Rule::Signed => {
+            let v = b as i64;
             if b < 64 {
-                let v = b as i64;
-                return Value::Signed(v);
+                Value::Signed(v)
+            } else {
+                Value::Signed(v - 128)
             }
-            let up = 127 - b;
-            let m = up as i64;
-            Value::Signed(!m)
         }
     }
-}
-
-// How many bytes stand from a place up to another.
-fn between(from: usize, to: usize) -> usize
-    requires { from ≤ to }
-    ensures { result ≡ to - from }
-{
-    to - from
 }
 
 // What a step says where the reading is refused: a gap over the whole group, or a tail. All bytes before the one that decided it are
@@ -122,15 +87,12 @@ fn unread(block: &[u8], at: usize, refusal: Refusal, decided: Place) -> Step
     requires { InRun block.now at decided.0 }
     ensures { means_step result ≡ missing block.now at (because_at refusal decided.0) }
 {
-    let from = decided.0;
-    let more = high_run(block, from);
-    let last = from + more;
-    let high = between(at, last);
+    let last = decided.0 + high_run(&block[decided.0..]);
     if block.len() <= last {
-        return Step::Tail(Count(high), Cursor { place: Place(at) });
+        return Step::Tail(Count(last - at), Cursor::at(at));
     }
-    let count = high + 1;
-    Step::Gap(refusal, decided, Count(count), past(at, count))
+    let next = last + 1;
+    Step::Gap(refusal, decided, Count(next - at), Cursor::at(next))
 }
 
 // What a step says at a start before the block's end, in full: for groups of more than one byte, gaps and tails.
@@ -141,15 +103,13 @@ fn long(block: &[u8], at: usize, rule: Rule) -> Step
     match rule {
         Rule::Unsigned => match read_u64(block, Place(at)) {
             ReadU64::Number(v, count) => {
-                let n = count.0;
-                Step::Number(Value::Unsigned(v), Count(n), past(at, n))
+                Step::Number(Value::Unsigned(v), count, Cursor::at(at + count.0))
             }
             ReadU64::Refused(refusal, place) => unread(block, at, refusal, place),
         },
         Rule::Signed => match read_i64(block, Place(at)) {
             ReadI64::Number(v, count) => {
-                let n = count.0;
-                Step::Number(Value::Signed(v), Count(n), past(at, n))
+                Step::Number(Value::Signed(v), count, Cursor::at(at + count.0))
             }
             ReadI64::Refused(refusal, place) => unread(block, at, refusal, place),
         },
@@ -157,12 +117,19 @@ fn long(block: &[u8], at: usize, rule: Rule) -> Step
 }
 
 impl Cursor {
+    fn at(place: usize) -> Cursor
+        ensures { result.place.0 ≡ place }
+    {
+        Cursor {
+            place: Place(place),
+        }
+    }
+
     // One step: 7, 4 or 6; the end; a tail; or what the group at the place says by the rule.
     pub fn step(self, block: &[u8], rule: Rule) -> Step
         ensures { Steps rule block.now self.place.0 result }
     {
-        let place = self.place;
-        let at = place.0;
+        let at = self.place.0;
         if BLOCK_LIMIT < block.len() {
             return Step::Refused(Refusal::TooLong);
         }
@@ -172,14 +139,12 @@ impl Cursor {
         if block.len() <= at {
             return Step::Finished(self);
         }
-        let starts = is_start(block, at);
-        if !starts {
+        if !is_start(block, at) {
             return Step::Refused(Refusal::NotAStart);
         }
         let b = block[at];
-        let more = is_high_8_bit_set(b);
-        if !more {
-            return Step::Number(alone(rule, b), Count(1), past(at, 1));
+        if !is_high_8_bit_set(b) {
+            return Step::Number(alone(rule, b), Count(1), Cursor::at(at + 1));
         }
         // Called in two places, `long` stays outside of the step, which so is small enough to become part of its callers
         // (docs/SPEED.md).
@@ -204,11 +169,9 @@ pub fn set_down(block: &[u8], place: Place) -> SetDown
     if at < 1 {
         return SetDown::At(Cursor { place });
     }
-    let before = at - 1;
-    let high = high_run(block, before);
-    let last = before + high;
+    let last = at - 1 + high_run(&block[at - 1..]);
     if last < block.len() {
-        return SetDown::At(past(at, high));
+        return SetDown::At(Cursor::at(last + 1));
     }
     SetDown::Refused(Refusal::NoStart)
 }

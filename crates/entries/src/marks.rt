@@ -11,25 +11,10 @@ fn is_mark(block: &[u8], at: usize) -> bool
     requires { at < length block.now }
     ensures { Tells (GroupAt block.now at mark) result }
 {
-    let high = block[at];
-    if high != 128 {
-        return false;
+    match &block[at..] {
+        [128, 0, ..] => at < 1 || !is_high_8_bit_set(block[at - 1]),
+        _ => false,
     }
-    let next = at + 1;
-    if block.len() <= next {
-        return false;
-    }
-    let low = block[next];
-    if 0 < low {
-        return false;
-    }
-    if at < 1 {
-        return true;
-    }
-    let before = at - 1;
-    let last = block[before];
-    let more = is_high_8_bit_set(last);
-    !more
 }
 
 // Whether an entry ends at the place: at a mark, or with the block.
@@ -37,10 +22,7 @@ pub(crate) fn ends(block: &[u8], at: usize) -> bool
     requires { at ≤ length block.now }
     ensures { Tells (EndsAt block.now at) result }
 {
-    if at < block.len() {
-        return is_mark(block, at);
-    }
-    true
+    at == block.len() || is_mark(block, at)
 }
 
 // The place of the least mark at the place or later, or, where there is none, the block's end.
@@ -48,13 +30,10 @@ pub(crate) fn next_mark(block: &[u8], from: usize) -> usize
     requires { from ≤ length block.now }
     ensures { NextMark block.now from result }
 {
-    let mut at = from;
-    while at < block.len() {
-        let here = is_mark(block, at);
-        if here {
+    for at in from..block.len() {
+        if is_mark(block, at) {
             return at;
         }
-        at += 1;
     }
-    at
+    block.len()
 }

@@ -1,17 +1,17 @@
 -- Texts laid down in a buffer, one behind the other.
 --
 --   joined_laid                 a text and one behind it are laid down as one
---   TextSoFar t i s n r s'      the first i bytes of the text t are laid down behind n that were filled, and r is how many then are
---   text_begun, one_byte_laid   none, and one byte more
---   full_laid, all_text_laid    the text is laid down where there is no room for more, and where all of its bytes are
+--   none_laid, part_laid        a text past the end of the buffer, and where as many of its bytes as fit are copied there
 --   front_count, front_laid     where there is room for it at the front, as many bytes are filled as a text has, and all of it stands there
-use Prim.Native.Nat.{ℕ, zero, suc, ◌+◌, ◌-◌, ◌≤◌, ◌<◌}
-use mathlib.Core.Path.{◌≡◌, refl, ap, ◌∙◌}
+use Prim.Native.Nat.{ℕ, zero, suc, ◌+◌, ◌-◌, ◌≤◌, ◌<◌, min}
+use mathlib.Core.Path.{◌≡◌, refl, ap, sym, ◌∙◌}
 use mathlib.Core.List.{List, [], ◌∷◌, ◌++◌}
-use native.Mathlib.Numerals.{add-one}
 use native.Mathlib.Omega.{arith}
-use lib.ListN.{length, take, drop, get_or, length-take, length-append}
-use lib.Seq.{sets, length-sets, take-suc, take_all, length-take-le, sets-eq}
+use lib.ListN.{length, take, drop, length-take, length-append}
+use lib.Seq.{length-sets, take_all, length-take-le, sets-eq, drop-drop}
+use borrow.Rule.Slice.PartMut.{put_mid}
+use Rattle.std.proofs.Common.{append_assoc}
+use Rattle.std.proofs.lemmas.List.{take_min}
 use Rattle.words.proofs.Lays.{sets_append}
 use Rattle.texts.specs.Texts.{LaysText}
 
@@ -38,39 +38,20 @@ module _ {a b s s' s'' : List ℕ} {n r r' : ℕ} (p : LaysText a s n r s') (q :
     bytes = rw (parts, sets_append (take (length s - n) a) (take (length s' - r) b) s n, ← p.count, ← p.bytes) q.bytes;
   }
 
-pub record TextSoFar (t : List ℕ) (i : ℕ) (s : List ℕ) (n r : ℕ) (s' : List ℕ) : Type 0 where
-  pub within : i ≤ length t
-  pub room : i ≤ length s - n
-  pub count : r ≡ n + i
-  pub same : length s' ≡ length s
-  pub bytes : s' ≡ sets s n (take i t)
+-- nothing is laid down past the end of the buffer
+pub none_laid : {t s : List ℕ} {n : ℕ} → length s < n → LaysText t s n n s
+none_laid {t} {s} {n} h = let z : length s - n ≡ 0 = omega arith in record { count = rw z (omega arith); bytes = rw z }
 
-pub text_begun : {t s : List ℕ} {n : ℕ} → TextSoFar t 0 s n n s
-text_begun {t} {s} {n} = record { within = omega arith; room = omega arith; count = omega arith; same = refl; bytes = refl }
-
-module _ {t s s' : List ℕ} {i n r : ℕ} (g : TextSoFar t i s n r s') where
-  pub one_byte_laid : {s'' : List ℕ} → i < length t → r < length s' → s'' ≡ sets s' r (get_or t i 0 ∷ []) → TextSoFar t (i + 1) s n (r + 1) s''
-  one_byte_laid {s''} h f e = record {
-    within = omega arith;
-    room = omega (arith, g.count, g.same);
-    count = omega (arith, g.count);
-    same = rw e (length-sets s' r (get_or t i 0 ∷ []) ∙ g.same);
-    bytes =
-        let k : n + length (take i t) ≡ r = omega (arith, g.count, length-take-le i t g.within) in
-        rw (add-one, take-suc t i 0 h, sets_append (take i t) (get_or t i 0 ∷ []) s n, k, ← g.bytes) e;
-  }
-
-  stops : length s - n ≡ i → LaysText t s n r s'
-  stops e = record { count = rw (e, length-take-le i t g.within) g.count; bytes = rw e g.bytes }
-
-  pub full_laid : length s' ≤ r → LaysText t s n r s'
-  full_laid h = stops (omega (arith, g.count, g.same, g.room))
-
-  pub all_text_laid : length t ≤ i → LaysText t s n r s'
-  all_text_laid h =
-      let e = take_all (length s - n) t (omega (arith, g.room)) in
-      let k : length t ≡ i = omega (arith, g.within) in
-      record { count = rw (e, k) g.count; bytes = rw e (rw (take_all i t h) at g.bytes) }
+-- else as many bytes of the text as fit are, in place of the k that stood there
+pub part_laid : (t s : List ℕ) (n m k : ℕ) → n ≤ length s → m ≡ min (length t) (length s - n) → k ≡ m → LaysText t s n (n + m) (put_mid n k s (take m t))
+part_laid t s n m k h e f =
+    let a : m ≡ min (length s - n) (length t) = omega arith in
+    let front : take (length s - n) t ≡ take m t = sym (take_min (length s - n) t) ∙ ap (λ (i : ℕ). take i t) (sym a) in
+    let l : length (take m t) ≡ m = length-take-le m t (omega arith) in
+    record {
+      count = rw (front, l);
+      bytes = rw (front, sets-eq (take m t) s n (rw l (omega arith)), l, drop-drop k n s, f, append_assoc);
+    }
 
 -- where there is room for it at the front, all of a text stands there
 module _ {t s s' : List ℕ} {r : ℕ} (room : length t ≤ length s) (p : LaysText t s 0 r s') where

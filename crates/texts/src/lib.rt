@@ -11,18 +11,13 @@ use words::Count;
 pub fn word(text: &[u8], buffer: &mut [u8], filled: Count) -> Count
     ensures { LaysText text.now buffer.old filled.0 result.0 buffer.new }
 {
-    let mut n = filled.0;
-    let mut i: usize = 0;
-    while i < text.len() {
-        if buffer.len() <= n {
-            return Count(n);
-        }
-        let b = text[i];
-        buffer[n] = b;
-        n += 1;
-        i += 1;
+    if buffer.len() < filled.0 {
+        return filled;
     }
-    Count(n)
+    let n = text.len().min(buffer.len() - filled.0);
+    let end = filled.0 + n;
+    buffer[filled.0..end].copy_from_slice(&text[..n]);
+    Count(end)
 }
 
 // A number in decimal, without zeros in front.

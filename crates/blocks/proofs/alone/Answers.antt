@@ -1,6 +1,8 @@
 -- `blocks::alone` keeps what it promises inside the crate.
-use Rattle.std.proofs.Common.{◌-◌, arith}
-use Rattle.groups.proofs.SignedWords.{complement, above}
+use Rattle.std.proofs.Common.{◌≡◌, ◌-◌, arith}
+use Rattle.std.specs.Prelude.{pos, negsuc, ◌-ℤ◌}
+use Rattle.std.proofs.lemmas.Int.{ints}
+use Rattle.groups.proofs.SignedWords.{above, word_back}
 use Rattle.blocks.proofs.GroupReading.{one_unsigned, one_above, one_below}
 use Rattle.blocks.proofs.alone.Goals as goal
 
@@ -12,4 +14,6 @@ returns-then-b-lt64 c = let b = c.args.b in rw (c.in-Signed.is, above b (omega a
 
 pub returns-else-b-lt64 : goal.returns-else-b-lt64
 returns-else-b-lt64 c =
-    let b = c.args.b in rw (c.in-Signed.is, complement (127 - b) (omega arith)) (one_below b c.if-b-lt64.false c.requires)
+    let b = c.args.b in
+    let e : pos b -ℤ pos 128 ≡ negsuc (127 - b) = omega (arith, ints) in
+    rw (c.in-Signed.is, above b (omega arith), e, word_back (negsuc (127 - b)) (omega arith)) (one_below b c.if-b-lt64.false c.requires)

@@ -5,5 +5,5 @@ use Rattle.blocks.proofs.is_start.Goals as goal
 pub returns-then-at-lt1 : goal.returns-then-at-lt1
 returns-then-at-lt1 c = front_is_start _ _ c.if-at-lt1.true
 
-pub returns : goal.returns
-returns c = low_is_start _ _ c.if-at-lt1.false c.is_high_8_bit_set-more.ensures
+pub returns-else-at-lt1 : goal.returns-else-at-lt1
+returns-else-at-lt1 c = low_is_start _ _ c.if-at-lt1.false c.is_high_8_bit_set.ensures

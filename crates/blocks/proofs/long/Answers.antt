@@ -34,8 +34,8 @@ says_s : (s : List ℕ) (at : ℕ) {rule : Rule} {r : ReadI64} (v : ℤ) (n : Co
 says_s s at v n bytes e read is =
     reads_number _ _ bytes _ signed i64 (λ (g : List ℕ). ap (λ (rule : Rule). read_by rule g) e) S.sound (sym read.is ∙ ap means_read_i64 is)
 
-pub past-requires : goal.past-requires
-past-requires c =
+pub overflow_add-at : goal.overflow_add-at
+overflow_add-at c =
     omega (arith, (says_u c.args.block.now c.args.at c.in-Number.v c.in-Number.count (λ i. (c.type_inv.block i).fits) c.in-Unsigned.is c.read_u64.ensures c.in-Number.is).0)
 
 pub unread-requires : goal.unread-requires
@@ -43,16 +43,15 @@ unread-requires c = decided_high _ _ u64 (search rules) c.in-Refused.refusal _ (
 
 pub returns-in-Number : goal.returns-in-Number
 returns-in-Number c =
-    rw c.past.ensures
-    (sym (says_u c.args.block.now c.args.at c.in-Number.v c.in-Number.count (λ i. (c.type_inv.block i).fits) c.in-Unsigned.is c.read_u64.ensures c.in-Number.is).1)
+    rw c.at.ensures (sym (says_u c.args.block.now c.args.at c.in-Number.v c.in-Number.count (λ i. (c.type_inv.block i).fits) c.in-Unsigned.is c.read_u64.ensures c.in-Number.is).1)
 
 pub returns-in-Refused : goal.returns-in-Refused
 returns-in-Refused c =
     reads_none _ _ (λ i. (c.type_inv.block i).fits) _ unsigned u64 (λ (g : List ℕ). ap (λ (rule : Rule). read_by rule g) c.in-Unsigned.is)
     (search rules) (sym c.read_u64.ensures.is ∙ ap means_read_u64 c.in-Refused.is) c.unread.ensures
 
-pub past-requires-in-Number-read_i64 : goal.past-requires-in-Number-read_i64
-past-requires-in-Number-read_i64 c =
+pub overflow_add-at-in-Number-read_i64 : goal.overflow_add-at-in-Number-read_i64
+overflow_add-at-in-Number-read_i64 c =
     let w = c.in-Number-read_i64 in
     omega (arith, (says_s c.args.block.now c.args.at w.v w.count (λ i. (c.type_inv.block i).fits) c.in-Signed.is c.read_i64.ensures w.is).0)
 
@@ -63,7 +62,7 @@ unread-requires-in-Refused-read_i64 c =
 pub returns-in-Number-read_i64 : goal.returns-in-Number-read_i64
 returns-in-Number-read_i64 c =
     let w = c.in-Number-read_i64 in
-    rw (c.past-in-Number-read_i64.ensures, word_back w.v (search rules))
+    rw (c.at-in-Number-read_i64.ensures, word_back w.v (search rules))
     (sym (says_s c.args.block.now c.args.at w.v w.count (λ i. (c.type_inv.block i).fits) c.in-Signed.is c.read_i64.ensures w.is).1)
 
 pub returns-in-Refused-read_i64 : goal.returns-in-Refused-read_i64

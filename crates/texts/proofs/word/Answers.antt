@@ -1,7 +1,10 @@
--- `texts::word` meets its promise: one byte more is laid down in each turn of the loop.
-use Rattle.std.proofs.Common.{refl}
-use Rattle.texts.proofs.LaysText.{one_byte_laid}
+-- `texts::word` meets its promise: as many bytes as there is room for are copied.
+use Rattle.std.proofs.Common.{arith}
+use Rattle.texts.proofs.LaysText.{none_laid, part_laid}
 use Rattle.texts.proofs.word.Goals as goal
 
-pub loop-i-preserved : goal.loop-i-preserved
-loop-i-preserved c = one_byte_laid c.loop-i.invariant c.loop-i-test.true c.if-buffer-n.false refl
+pub returns-then-buffer-filled : goal.returns-then-buffer-filled
+returns-then-buffer-filled c = none_laid c.if-buffer-filled.true
+
+pub returns : goal.returns
+returns c = rw c.copy_from_slice.ensures.after (part_laid _ _ _ _ _ c.if-buffer-filled.false c.min-n.ensures (omega arith))

@@ -1,6 +1,6 @@
 -- `blocks::Cursor::step` meets its promise: a law of `Rows` for each answer before a start, and from there what `long` or one byte says.
-use Rattle.std.proofs.Common.{refl, ap, not, sym, ◌∙◌, rules}
-use Rattle.bits.proofs.HighBit.{bit_clear}
+use Rattle.std.proofs.Common.{refl, sym, ◌∙◌, rules}
+use borrow.Author.Tests.{leb-false}
 use Rattle.blocks.proofs.GroupReading.{reads_one}
 use Rattle.blocks.proofs.Rows.{step_too_long, step_past, step_finished, step_not_a_start, step_standing}
 use Rattle.blocks.proofs.Cursor.step.Goals as goal
@@ -14,22 +14,21 @@ returns-then-block-at c = step_past _ _ _ c.if-block-gt-BLOCK_LIMIT.false c.if-b
 pub returns-then-block-at-2 : goal.returns-then-block-at-2
 returns-then-block-at-2 c = step_finished _ _ _ c.if-block-gt-BLOCK_LIMIT.false _ refl c.if-block-at.false c.if-block-at-2.true
 
-pub returns-then-not-starts : goal.returns-then-not-starts
-returns-then-not-starts c =
-    step_not_a_start _ _ _ (search rules) (search rules) (sym c.is_start-starts.ensures ∙ c.if-not-starts.true)
+pub returns-then-not-is_start : goal.returns-then-not-is_start
+returns-then-not-is_start c =
+    step_not_a_start _ _ _ (search rules) (search rules) (sym c.is_start.ensures ∙ c.if-not-is_start.true)
 
 -- past the test for a start
-pub returns-then-not-more : goal.returns-then-not-more
-returns-then-not-more c =
-    step_standing _ _ _ (search rules) (search rules) (sym c.is_start-starts.ensures ∙ c.if-not-starts.false) refl
-    (rw c.past.ensures
-    (reads_one _ _ _ (search rules) (bit_clear c.is_high_8_bit_set-more.ensures (ap not c.if-not-more.true)) c.alone.ensures))
+pub returns-then-not-is_high_8_bit_set : goal.returns-then-not-is_high_8_bit_set
+returns-then-not-is_high_8_bit_set c =
+    step_standing _ _ _ (search rules) (search rules) (sym c.is_start.ensures ∙ c.if-not-is_start.false) refl
+    (rw c.at.ensures (reads_one _ _ _ (search rules) (leb-false _ _ (sym c.if-not-is_high_8_bit_set.ensures)) c.alone.ensures))
 
 pub returns-in-Unsigned : goal.returns-in-Unsigned
 returns-in-Unsigned c =
-    step_standing _ _ _ (search rules) (search rules) (sym c.is_start-starts.ensures ∙ c.if-not-starts.false) c.in-Unsigned.is c.long.ensures
+    step_standing _ _ _ (search rules) (search rules) (sym c.is_start.ensures ∙ c.if-not-is_start.false) c.in-Unsigned.is c.long.ensures
 
 pub returns-in-Signed : goal.returns-in-Signed
 returns-in-Signed c =
-    step_standing _ _ _ (search rules) (search rules) (sym c.is_start-starts.ensures ∙ c.if-not-starts.false) c.in-Signed.is
+    step_standing _ _ _ (search rules) (search rules) (sym c.is_start.ensures ∙ c.if-not-is_start.false) c.in-Signed.is
     c.long-in-Signed.ensures
