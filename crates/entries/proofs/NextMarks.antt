@@ -3,8 +3,7 @@
 --   mark_group                                     a mark is a group
 --   mark_inside, mark_high, mark_low, mark_start   what a mark's bytes are, and the one before it
 --   mark_there                                     where they stand so, there is a mark
---   mark_told                                      and behind a byte, that one tells
---   ends_told                                      before the block's end, an entry can end exactly at a mark
+--   mark_in_front, mark_told                       so where the bytes from a place on begin with them: at the front, and behind a byte that one tells
 --   told_yes, told_no                              what a test tells
 --   next_within                                    the next mark, or the end, is no further than the end
 --   one_next                                       there is one next mark
@@ -19,14 +18,17 @@ use mathlib.Core.List.{List, [], ◌∷◌}
 use mathlib.Core.Bool.{Bool, true, false, not}
 use mathlib.Core.Logic.{◌⊎◌, inl, inr, ⊎_elim}
 use native.Mathlib.Omega.{arith}
+use borrow.Author.Tests.{lt-ltb}
+use lib.Dec.{ltb}
 use lib.ListN.{length, get_or, take, drop, length-drop}
-use lib.Seq.{get_or-drop}
+use lib.Seq.{get_or-drop, take-length}
+use Rattle.std.specs.List.{slice_range}
 use Rattle.words.proofs.Cases.{by_order, by_test}
 use Rattle.bits.specs.Macros.{is_high_8_bit_set_lem}
 use Rattle.bits.proofs.HighBit.{bit_clear, bit_set}
 use Rattle.groups.specs.Group.{Group, one, more}
 use Rattle.blocks.specs.GroupsAndTail.{GroupAt}
-use Rattle.entries.specs.Standing.{mark, EndsAt, NextMark}
+use Rattle.entries.specs.Standing.{mark, NextMark}
 use Rattle.entries.specs.Inner.{Tells}
 
 pub mark_group : Group mark
@@ -111,18 +113,24 @@ told_yes f e = rw e at f
 pub told_no : {P : Type 0} {t : Bool} → Tells P t → t ≡ false → P → ⊥
 told_no f e = rw e at f
 
--- where a mark's bytes stand behind another byte, that one tells whether it is a mark
-pub mark_told : (s : List ℕ) (p : ℕ) {high : Bool} → p + 1 < length s → get_or s p 0 ≡ 128 → get_or s (p + 1) 0 ≤ 0 → 1 ≤ p → high ≡ is_high_8_bit_set_lem (get_or s (p - 1) 0)
-    → Tells (GroupAt s p mark) (not high)
-mark_told s p {high} h a c some e =
-    by_test (not high)
-    (λ t. rw t (mark_there s p h a c (λ i. bit_clear e t)))
-    (λ t. rw t (λ k. omega (arith, mark_start k some, bit_set {b = get_or s (p - 1) 0} e t)))
+-- where the bytes from a place on begin with a mark's, the byte before them tells whether it is one
+module _ (s : List ℕ) (p : ℕ) (two_more : 2 ≤ length (slice_range s p (length s))) (high : get_or (slice_range s p (length s)) 0 0 ≡ 128)
+    (low : get_or (slice_range s p (length s)) 1 0 ≡ 0) where
+  mark_matched : (1 ≤ p → get_or s (p - 1) 0 < 128) → GroupAt s p mark
+  mark_matched =
+      let rest : slice_range s p (length s) ≡ drop p s = rw (← length-drop p s) (take-length (drop p s)) in
+      let i : p ≡ p + 0 = omega arith in
+      mark_there s p (omega (arith, length-drop p s, ap (λ (l : List ℕ). length l) rest))
+      (ap (λ (j : ℕ). get_or s j 0) i ∙ sym (get_or-drop p s 0 0) ∙ rw rest at high) (omega (arith, get_or-drop p s 1 0, rw rest at low))
 
--- whether an entry can end at a place before the block's end
-pub ends_told : (s : List ℕ) (at : ℕ) (r : Bool) → at < length s → Tells (GroupAt s at mark) r → Tells (EndsAt s at) r
-ends_told s at true h k = inl k
-ends_told s at false h none = λ k. ⊎_elim none (λ e. omega arith) k
+  pub mark_in_front : p < 1 → Tells (GroupAt s p mark) (ltb p 1)
+  mark_in_front z = rw (lt-ltb p 1 z) (mark_matched (λ some. absurd (omega arith)))
+
+  pub mark_told : {r : Bool} → 1 ≤ p → r ≡ is_high_8_bit_set_lem (get_or s (p - 1) 0) → Tells (GroupAt s p mark) (not r)
+  mark_told {r} some e =
+      by_test (not r)
+      (λ t. rw t (mark_matched (λ i. bit_clear e t)))
+      (λ t. rw t (λ k. omega (arith, mark_start k some, bit_set {b = get_or s (p - 1) 0} e t)))
 
 -- whether a mark stands at a place
 mark_or_not : (s : List ℕ) (p : ℕ) → GroupAt s p mark ⊎ (GroupAt s p mark → ⊥)
