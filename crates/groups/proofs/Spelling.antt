@@ -10,6 +10,7 @@
 --   group_bounds                 a group says at least what its last byte says, times that byte's weight, and less than one more, times it
 --   complements                  what bytes say at the two signs, and 1, add up to 128 to their count
 --   Spelled below small m g      g spells m: seven bits a byte, and once what is left is below small, a last byte that says it
+--   grown                        `groups` with a byte more gives it in front
 --   spelled, spelled_unique      `spell` gives such a list, and there is no other
 --   some_bytes                   it has some byte
 --   times_more                   a times the next power of 128 is 128 times as much as a times the power

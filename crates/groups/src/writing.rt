@@ -36,7 +36,7 @@ fn magnitude(v: i64) -> u64
 fn length_unsigned(v: u64) -> Count
     ensures { Takes (spell false 128 v) result }
 {
-    let n = (72 - v.leading_zeros() as usize) / 8;
+    let n = (72 - v.leading_zeros() as usize) >> 3;
     let growth = GROWTH[n - 1];
     if growth <= v { Count(n + 1) } else { Count(n) }
 }
