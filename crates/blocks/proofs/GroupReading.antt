@@ -117,10 +117,9 @@ module _ {s : List ℕ} {p q more : ℕ} (r : InRun s p q) (e : more ≡ length 
       let e : n ≡ run (drop p s) = omega (arith, run_on) in
       rw (e, eq-eqb (run (drop p s)) (length (drop p s)) all)
 
-  pub missing_gap : {n c : ℕ} {k : Why} → n ≡ c - p → c ≡ q + more + 1 → q + more < length s → gap k n c ≡ missing s p k
+  pub missing_gap : {n c : ℕ} {k : Why} → n ≡ q + more - p → c ≡ p + (n + 1) → q + more < length s → gap k (n + 1) c ≡ missing s p k
   unfolding missing
-  missing_gap {n} {c} d f h =
+  missing_gap {n} d f h =
       let ne : run (drop p s) ≡ length (drop p s) → ⊥ = λ a. omega (arith, run_on, length-drop p s) in
-      let e : n ≡ run (drop p s) + 1 = omega (arith, run_on) in
-      let g : c ≡ p + (run (drop p s) + 1) = omega (arith, run_on) in
-      rw (g, e, ne_eqb (run (drop p s)) (length (drop p s)) ne)
+      let e : n ≡ run (drop p s) = omega (arith, run_on) in
+      rw (f, e, ne_eqb (run (drop p s)) (length (drop p s)) ne)

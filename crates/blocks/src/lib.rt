@@ -73,6 +73,14 @@ fn alone(rule: Rule, b: u8) -> Value
     }
 }
 
+// How many bytes stand from a place up to another.
+fn between(from: usize, to: usize) -> usize
+    requires { from ≤ to }
+    ensures { result ≡ to - from }
+{
+    to - from
+}
+
 // What a step says where the reading is refused: a gap over the whole group, or a tail. All bytes before the one that decided it are
 // 128 or more, so the search for the group's end goes on from there.
 fn unread(block: &[u8], at: usize, fault: Fault) -> Result<Step, Refusal>
@@ -81,11 +89,12 @@ fn unread(block: &[u8], at: usize, fault: Fault) -> Result<Step, Refusal>
 {
     let decided = fault.1.0;
     let last = decided + high_run(&block[decided..]);
+    let high = between(at, last);
     if block.len() <= last {
-        return Ok(Step::Tail(Count(last - at), Cursor::at(at)));
+        return Ok(Step::Tail(Count(high), Cursor::at(at)));
     }
-    let next = last + 1;
-    Ok(Step::Gap(fault, Count(next - at), Cursor::at(next)))
+    let count = high + 1;
+    Ok(Step::Gap(fault, Count(count), Cursor::at(at + count)))
 }
 
 // What a step says at a start before the block's end, in full: for groups of more than one byte, gaps and tails.

@@ -18,21 +18,21 @@ pub struct Place(pub usize);
 #[derive(Clone, Copy, Debug, PartialEq, Eq, PartialOrd, Ord, Hash)]
 pub struct Count(pub usize);
 
-// Why the desk refuses, as the numbers rise: document 01's table, then what document 02 adds.
+// Why the desk refuses, each with its number: document 01's table, then what document 02 adds.
 #[derive(Clone, Copy, Debug, PartialEq, Eq)]
 pub enum Refusal {
-    End,
-    Overflow,
-    NotShortest,
-    Place,
-    NoRoom,
-    NotAStart,
-    TooLong,
-    NoStart,
-    Thread,
-    Entry,
-    Slip,
-    Tree,
+    End = 1,
+    Overflow = 2,
+    NotShortest = 3,
+    Place = 4,
+    NoRoom = 5,
+    NotAStart = 6,
+    TooLong = 7,
+    NoStart = 8,
+    Thread = 9,
+    Entry = 10,
+    Slip = 11,
+    Tree = 13,
 }
 
 // Its number.
@@ -68,20 +68,7 @@ impl Error for Fault {}
 pub fn number(refusal: Refusal) -> u8
     ensures { Numbered refusal result }
 {
-    match refusal {
-        Refusal::End => 1,
-        Refusal::Overflow => 2,
-        Refusal::NotShortest => 3,
-        Refusal::Place => 4,
-        Refusal::NoRoom => 5,
-        Refusal::NotAStart => 6,
-        Refusal::TooLong => 7,
-        Refusal::NoStart => 8,
-        Refusal::Thread => 9,
-        Refusal::Entry => 10,
-        Refusal::Slip => 11,
-        Refusal::Tree => 13,
-    }
+    refusal as u8
 }
 
 // Whether so many bytes fit a buffer of this size at the place. Place and count are not added up, so that no sum can be too large.

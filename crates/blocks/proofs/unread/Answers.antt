@@ -1,5 +1,5 @@
 -- `blocks::unread` keeps what it promises inside the crate: the run goes on from the byte that decided the refusal.
-use Rattle.std.proofs.Common.{refl, arith}
+use Rattle.std.proofs.Common.{arith}
 use Rattle.blocks.proofs.GroupReading.{decided_inside, run_ends, missing_tail, missing_gap}
 use Rattle.blocks.proofs.unread.Goals as goal
 
@@ -13,7 +13,7 @@ pub overflow_add-last : goal.overflow_add-last
 overflow_add-last c = omega (arith, (run_ends c.requires c.high_run.ensures).1)
 
 pub returns-then-block-last : goal.returns-then-block-last
-returns-then-block-last c = rw c.at.ensures (missing_tail c.requires c.high_run.ensures _ refl c.if-block-last.true)
+returns-then-block-last c = rw c.at.ensures (missing_tail c.requires c.high_run.ensures _ c.between-high.ensures c.if-block-last.true)
 
 pub returns : goal.returns
-returns c = rw c.at-2.ensures (missing_gap c.requires c.high_run.ensures refl refl c.if-block-last.false)
+returns c = missing_gap c.requires c.high_run.ensures c.between-high.ensures c.at-2.ensures c.if-block-last.false
