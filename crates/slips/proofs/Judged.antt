@@ -87,7 +87,9 @@ module _ (l : List ℕ) {behind : List ℕ} {low : ℕ} (whole : 4 ≤ length l)
 
     pub range_good : {v : Setting} → good (torque ∷ torque ∷ []) (low ∷ high ∷ []) ≡ true → means_setting v ≡ (3, low ∷ high ∷ []) → F32 v
         → AnswersSlip (3 ∷ l) (Ok (v, (record { 0 = 9 })))
-    range_good g e f = slip_good l (omega arith) (omega (arith, length-drop 4 l, ap length rest)) _ (rw (← rest, ← read', ← read) g) (rw (← rest, ← read', ← read) e) f refl
+    range_good g e f =
+        slip_good l (omega arith) (omega (arith, length-drop 4 l, ap length rest)) _ (rw (← rest, ← read', ← read) g) (rw (← rest, ← read', ← read) e) f
+        refl
 
 none_there : (l : List ℕ) → length l ≡ 0 → refused (by 1) ≡ slip l
 unfolding slip

@@ -1,10 +1,9 @@
 // Reading a slip: its kind, whether the body is there, and then whether its bits are good.
-ghost use Rattle.std.specs.Prelude.{◌+◌, ◌<◌, ◌≤◌, ◌∷◌, ◌≡◌, true, false, length, take, drop, MatchResult};
+ghost use Rattle.std.specs.Prelude.{◌<◌, ◌∷◌, ◌≡◌, true, false, length, MatchResult};
 ghost use Rattle.std.specs.Float.{binary32, NotNanBits};
 ghost use Rattle.std.specs.Float.Ieee.{of_bits};
 ghost use Rattle.words.specs.declared.Refusal.TheVariants.{End, Slip};
-ghost use Rattle.slips.specs.Slip.{little};
-ghost use Rattle.slips.specs.Inner.{AnswersSlip};
+ghost use Rattle.slips.specs.Inner.{HasWord, AnswersSlip};
 ghost use Rattle.slips.specs.Promise.{ReadsSetting};
 
 use crate::good::{good_angle, good_range, good_torque};
@@ -14,7 +13,7 @@ use words::{Count, Place, Refusal};
 // The word at the front of a body and what stands behind it; 1 where the body ends before.
 #[tactic(auto, using(crate::proofs::WordRead::word_little))]
 fn word(body: &[u8]) -> Result<(u32, &[u8]), Refusal>
-    ensures { MatchResult result (λ p. (4 ≤ length body.now) × (p.0 ≡ little (take 4 body.now)) × (p.1.now ≡ drop 4 body.now)) (λ why. (why ≡ End) × (length body.now < 4)) }
+    ensures { MatchResult result (λ p. HasWord body.now p.0 p.1.now) (λ why. (why ≡ End) × (length body.now < 4)) }
 {
     let (bytes, behind) = body.split_first_chunk::<4>().ok_or(Refusal::End)?;
     Ok((u32::from_le_bytes(*bytes), behind))
