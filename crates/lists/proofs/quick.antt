@@ -4,7 +4,7 @@
 --   Marks, CleanLeft                      the sound scan: what its marks tell, and that a clean block is numbers
 --   Bytewise, FirstFlag, PairedDigits     eight bytes as one number: masks, the first flag, digits put together
 --   HighBits, NumberInWord, NumberAtOnce  what the high bits of a word tell, and the number that it begins with
---   TwoParts, Smalls, BytesStored         bytes from two parts of as many; small ones at the front; bytes stored as numbers
+--   Smalls, BytesStored                   small bytes at the front; bytes loaded as a number, and stored as numbers
 --   Overwriting, Steps, RestLoop          stores over stores; what a step takes and stores; the last few, one by one
 --   Stream, HalvesLoop, Split             one stream, the loop over two, and the block in two halves
 pub mod Front
@@ -18,7 +18,6 @@ pub mod Smalls
 pub mod HighBits
 pub mod NumberInWord
 pub mod NumberAtOnce
-pub mod TwoParts
 pub mod BytesStored
 pub mod Overwriting
 pub mod Steps

@@ -1,8 +1,6 @@
 -- What filling a slice in two streams asks and promises.
 --
---   Ready s at n room              sixteen numbers or more are left from the place at on, with room for them from the n-th on
---   Stepped ..                     a step took the numbers xs of those left, vs, and what it stored behind them lies where the rest will
---   Steps ..                       a step does so, whatever numbers are left, if they are sixteen or more
+--   Smalls s old r out             no number is taken, or r small ones are, of sixteen bytes stored
 --   RestFits s at to n room        numbers are left from at to the place to, with room for them from the n-th on
 --   RestStored s at to n old out   they are stored there, whichever they are, and all else is kept
 --   Begun s mid half count vs us   vs stand before the start mid, half of them, and us behind it, up to count
@@ -13,27 +11,11 @@
 use Rattle.std.specs.Prelude.{ℕ, ◌+◌, ◌≤◌, List, ◌++◌, ◌≡◌, length}
 use Rattle.std.proofs.lemmas.List.Edits.{sets}
 use Rattle.lists.specs.InnerLeft.{Left}
+use Rattle.lists.specs.InnerWide.{Stores}
 
-pub record Ready (s : List ℕ) (at n room : ℕ) : Type 0 where
-  pub to : ℕ
-  pub vs : List ℕ
-  pub left : Left s to at vs
-  pub within : to ≤ length s
-  pub many : 16 ≤ length vs
-  pub enough : n + length vs ≤ room
-
-pub record Stepped (s : List ℕ) (to at : ℕ) (vs old : List ℕ) (n at2 n2 : ℕ) (out : List ℕ) : Type 0 where
-  pub xs : List ℕ
-  pub junk : List ℕ
-  pub rest : List ℕ
-  pub split : vs ≡ xs ++ rest
-  pub left : Left s to at2 rest
-  pub count : n2 ≡ n + length xs
-  pub leaves : out ≡ sets old n (xs ++ junk)
-  pub covered : length junk ≤ length rest
-
-abbrev pub Steps : List ℕ → ℕ → List ℕ → ℕ → ℕ → ℕ → List ℕ → Type 0
-Steps s at old n at2 n2 out = (to : ℕ) (vs : List ℕ) → Left s to at vs → to ≤ length s → 16 ≤ length vs → Stepped s to at vs old n at2 n2 out
+pub data Smalls (s old : List ℕ) : ℕ → List ℕ → Type 0 where
+  none : Smalls s old 0 old
+  some : {r : ℕ} {out : List ℕ} → Stores s old r out → Smalls s old r out
 
 pub record RestFits (s : List ℕ) (at to n room : ℕ) : Type 0 where
   pub vs : List ℕ

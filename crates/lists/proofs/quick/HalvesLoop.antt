@@ -5,10 +5,11 @@
 --   filling_ends                when the last few of both are stored, all is
 --   Turn k ..                   both streams have k numbers left or more, and so k bytes
 --   turn_begins                 where the loop goes on, 17
+--   accepts_first, accepts_second   each stream then has a number of ten bytes or fewer at its front
 --   turn_numbers                when a number of each was read and stored, 16
 --   turn_stored                 both in one, from where the loop goes on
---   ready_first, ready_second   each stream is then ready for a step, the second also when the first has made its own
---   turn_ends                   after both steps the loop holds what it held, with no fewer numbers stored
+--   ready_first, ready_second   each stream then has sixteen bytes and room for as many, the second also when the first has made its step
+--   turn_ends                   after both steps the loop holds what it held
 use Prim.Native.Nat.{ℕ, ◌+◌, ◌-◌, ◌≤◌, ◌<◌}
 use mathlib.Core.Path.{◌≡◌, refl, sym, ◌∙◌}
 use mathlib.Core.List.{List, []}
@@ -16,17 +17,22 @@ use native.Mathlib.Nat.{zero-add}
 use native.Mathlib.Omega.{arith}
 use lib.ListN.{length, drop, set}
 use lib.Seq.{sets}
+use Rattle.std.proofs.lemmas.List.{take_rest}
 use Rattle.words.specs.Answer.{gives}
 use Rattle.words.proofs.Lays.{sets_append}
 use Rattle.groups.specs.Width.{reading}
 use Rattle.uleb128.specs.Unsigned.{u64}
-use Rattle.lists.specs.InnerHalves.{Ready, Stepped, Steps, RestStored, HalvesFit, HalvesStored}
+use Rattle.lists.specs.InnerWide.{Accepts}
+use Rattle.lists.specs.InnerHalves.{RestStored, HalvesFit, HalvesStored}
 use Rattle.lists.proofs.quick.Front.{left_within, one_list}
-use Rattle.lists.proofs.quick.Stream.{Stream, stream_inside, stream_ready, stream_one, stream_steps, stream_on, stream_kept, stream_stored}
+use Rattle.lists.proofs.quick.Steps.{Stepped, Steps, rest}
+use Rattle.lists.proofs.quick.Stream.{Stream, stream_inside, stream_accepts, stream_one, stream_steps, stream_on, stream_kept, stream_stored}
 
 pub record Filling (s : List ℕ) (mid half count : ℕ) (old out : List ℕ) (at n at2 n2 : ℕ) : Type 0 where
   pub first : Stream s mid half at n
   pub second : Stream s (length s) count at2 n2
+  pub here : at ≤ length s
+  pub here2 : at2 ≤ length s
   pub over : half ≤ n2
   pub kept : length out ≡ length old
   pub enough : count ≤ length old
@@ -40,6 +46,8 @@ filling_begins {s} {mid} {half} {count} old h =
     record {
       first = record { vs = h.vs; left = b.first; within = omega (arith, left_within b.second); counts = e };
       second = record { vs = h.us; left = b.second; within = omega arith; counts = b.all };
+      here = omega arith;
+      here2 = omega (arith, left_within b.second);
       over = omega arith;
       kept = refl;
       enough = h.enough;
@@ -54,6 +62,8 @@ module _ {s : List ℕ} {mid half count : ℕ} {old out : List ℕ} {at n at2 n2
       record {
         first = stream_on g.first f;
         second = g.second;
+        here = omega (arith, left_within f.left, g.first.within);
+        here2 = g.here2;
         over = g.over;
         kept = stream_kept g.first f ∙ g.kept;
         enough = g.enough;
@@ -66,6 +76,8 @@ module _ {s : List ℕ} {mid half count : ℕ} {old out : List ℕ} {at n at2 n2
       record {
         first = g.first;
         second = stream_on g.second f;
+        here = g.here;
+        here2 = omega (arith, left_within f.left);
         over = omega (arith, f.count, g.over);
         kept = stream_kept g.second f ∙ g.kept;
         enough = g.enough;
@@ -91,11 +103,31 @@ left_inside k f m m2 =
     record { filling = f; many = m; many2 = m2; inside = omega (arith, stream_inside a); inside2 = omega (arith, stream_inside b) }
 
 module _ {s : List ℕ} {mid half count : ℕ} {old out : List ℕ} {at n at2 n2 : ℕ} where
-  pub turn_begins : {most most2 : ℕ} → Filling s mid half count old out at n at2 n2 → most ≡ half - 16 → most2 ≡ count - 16
+  turn_begins : {most most2 : ℕ} → Filling s mid half count old out at n at2 n2 → most ≡ half - 16 → most2 ≡ count - 16
       → (n < most) × (n2 < most2) → Turn 17 s mid half count old out at n at2 n2
   turn_begins f e e2 h = left_inside 17 f (omega (arith, h.0)) (omega (arith, h.1))
 
-  pub turn_numbers : {v m v2 m2 : ℕ} → Turn 17 s mid half count old out at n at2 n2 → reading u64 (drop at s) ≡ gives (v, m)
+  pub accepts_first : {most most2 : ℕ} → Filling s mid half count old out at n at2 n2 → most ≡ half - 16 → most2 ≡ count - 16
+      → (n < most) × (n2 < most2) → Accepts (rest s at)
+  accepts_first f e e2 h = rw (take_rest s at) (stream_accepts f.first (omega (arith, h.0)))
+
+  pub accepts_second : {most most2 : ℕ} → Filling s mid half count old out at n at2 n2 → most ≡ half - 16 → most2 ≡ count - 16
+      → (n < most) × (n2 < most2) → Accepts (rest s at2)
+  accepts_second f e e2 h = rw (take_rest s at2) (stream_accepts f.second (omega (arith, h.1)))
+
+  pub first_inside : {most v m : ℕ} → Filling s mid half count old out at n at2 n2 → most ≡ half - 16 → n < most → reading u64 (rest s at) ≡ gives (v, m)
+      → at + m + 16 ≤ length s
+  first_inside {v = v} f e h r =
+      let g = first_stepped f (stream_one f.first out (omega arith) (rw (take_rest s at) at r)) in
+      omega (arith, stream_inside g.first, g.first.counts, g.first.within)
+
+  pub second_inside : {most v m : ℕ} → Filling s mid half count old out at n at2 n2 → most ≡ count - 16 → n2 < most → reading u64 (rest s at2) ≡ gives (v, m)
+      → at2 + m + 16 ≤ length s
+  second_inside {v = v} f e h r =
+      let g = second_stepped f (stream_one f.second out (omega arith) (rw (take_rest s at2) at r)) in
+      omega (arith, stream_inside g.second, g.second.counts)
+
+  turn_numbers : {v m v2 m2 : ℕ} → Turn 17 s mid half count old out at n at2 n2 → reading u64 (drop at s) ≡ gives (v, m)
       → reading u64 (drop at2 s) ≡ gives (v2, m2) → Turn 16 s mid half count old (set (set out n v) n2 v2) (at + m) (n + 1) (at2 + m2) (n2 + 1)
   turn_numbers {v} t e e2 =
       let f = first_stepped t.filling (stream_one t.filling.first out (omega (arith, t.many)) e) in
@@ -103,23 +135,21 @@ module _ {s : List ℕ} {mid half count : ℕ} {old out : List ℕ} {at n at2 n2
       left_inside 16 g (omega (arith, t.many)) (omega (arith, t.many2))
 
   pub turn_stored : {most most2 v m v2 m2 : ℕ} → Filling s mid half count old out at n at2 n2 → most ≡ half - 16 → most2 ≡ count - 16
-      → (n < most) × (n2 < most2) → reading u64 (drop at s) ≡ gives (v, m) → reading u64 (drop at2 s) ≡ gives (v2, m2)
+      → (n < most) × (n2 < most2) → reading u64 (rest s at) ≡ gives (v, m) → reading u64 (rest s at2) ≡ gives (v2, m2)
       → Turn 16 s mid half count old (set (set out n v) n2 v2) (at + m) (n + 1) (at2 + m2) (n2 + 1)
-  turn_stored f e e2 h r r2 = turn_numbers (turn_begins f e e2 h) r r2
+  turn_stored f e e2 h r r2 = turn_numbers (turn_begins f e e2 h) (rw (take_rest s at) at r) (rw (take_rest s at2) at r2)
 
   module _ (t : Turn 16 s mid half count old out at n at2 n2) where
-    pub ready_first : Ready s at n (length out)
-    ready_first = let f = t.filling in stream_ready f.first (omega arith) (omega (arith, f.over, f.enough, f.kept))
+    pub ready_first : (at + 16 ≤ length s) × (n + 16 ≤ length out)
+    ready_first = let f = t.filling in (t.inside, omega (arith, t.many, f.over, f.second.counts, f.enough, f.kept))
 
     module _ {at' n' : ℕ} {out' : List ℕ} (a : Steps s at out n at' n' out') where
       first_done : Filling s mid half count old out' at' n' at2 n2
       first_done = first_stepped t.filling (stream_steps t.filling.first (omega (arith, t.many)) a)
 
-      pub ready_second : Ready s at2 n2 (length out')
-      ready_second = let f = first_done in stream_ready f.second (omega (arith, t.many2)) (omega (arith, f.enough, f.kept))
+      pub ready_second : (at2 + 16 ≤ length s) × (n2 + 16 ≤ length out')
+      ready_second = let f = first_done in (t.inside2, omega (arith, t.many2, f.enough, f.kept))
 
       pub turn_ends : {at2' n2' : ℕ} {out'' : List ℕ} → Steps s at2 out' n2 at2' n2' out''
-          → (n ≤ n') × Filling s mid half count old out'' at' n' at2' n2'
-      turn_ends b =
-          let g = stream_steps t.filling.first (omega (arith, t.many)) a in
-          (omega (arith, g.count), second_stepped first_done (stream_steps first_done.second (omega (arith, t.many2)) b))
+          → Filling s mid half count old out'' at' n' at2' n2'
+      turn_ends b = second_stepped first_done (stream_steps first_done.second (omega (arith, t.many2)) b)

@@ -1,6 +1,6 @@
 -- What eight bytes taken at once say of a reading of 64 bits that gives a number.
 --
---   word_bytes   the word loaded from a place has the eight bytes there
+--   word_bytes   a word has the eight bytes that it is loaded from
 --   once_short   a number found in the word is the one that is read,
 --   once_long    and so is one of nine or ten bytes
 use Prim.Native.Nat.{ℕ, zero, suc, ◌+◌, ◌≤◌, ◌<◌, min}
@@ -8,8 +8,8 @@ use mathlib.Core.Path.{◌≡◌, ap, ap₂, sym, ◌∙◌}
 use mathlib.Core.List.{List, [], ◌∷◌}
 use native.Mathlib.Omega.{arith}
 use borrow.Author.Tests.{lt-leb, le-leb, eq-eqb}
-use lib.ListN.{length, get_or, take, drop, length-drop}
-use lib.Seq.{get_or-drop, take-take, length-take-le}
+use lib.ListN.{length, get_or, take}
+use lib.Seq.{take-take, length-take-le}
 use Rattle.words.specs.Answer.{gives}
 use Rattle.words.proofs.Cases.{by_order}
 use Rattle.words.proofs.OneMeaning.{apart}
@@ -78,27 +78,20 @@ module _ (l : List ℕ) {a c : ℕ} (e : reading u64 l ≡ gives (a, c)) where
       found_long : Found l v n
       found_long = by_order (get_or l 8 0) 128 found_nine found_ten
 
-module _ (s : List ℕ) (at : ℕ) (bytes : Bytes s) {w : ℕ} (is : w ≡ little (take 8 (drop at s))) where
-  bytes_from : Bytes (drop at s)
-  bytes_from i = rw (get_or-drop at s i 0) (bytes (at + i))
-
-  pub word_bytes : at + 8 ≤ length s → spread 8 w ≡ take 8 (drop at s)
+module _ (s : List ℕ) (bytes : Bytes s) {w : ℕ} (is : w ≡ little (take 8 s)) where
+  pub word_bytes : 8 ≤ length s → spread 8 w ≡ take 8 s
   word_bytes room =
-      let l : length (take 8 (drop at s)) ≡ 8 = length-take-le 8 (drop at s) (rw (length-drop at s) (omega arith)) in
-      let q = spread_little (take 8 (drop at s)) (below_bytes 8 (drop at s) bytes_from) in
+      let l : length (take 8 s) ≡ 8 = length-take-le 8 s room in
+      let q = spread_little (take 8 s) (below_bytes 8 s bytes) in
       rw is (rw l at q)
 
-  module _ (a : Accepts s at) where
-    word_here : spread 8 w ≡ take 8 (drop at s)
+  module _ (a : Accepts s) where
+    word_here : spread 8 w ≡ take 8 s
     word_here = word_bytes (omega (arith, a.room))
 
-    pub once_short : {v n : ℕ} → run (spread 8 w) < 8 → Found (spread 8 w) v n → reading u64 (drop at s) ≡ gives (v, n)
-    once_short h f = found_read (drop at s) a.is (found_front (drop at s) (rw word_here at h) (rw word_here at f))
+    pub once_short : {v n : ℕ} → run (spread 8 w) < 8 → Found (spread 8 w) v n → reading u64 s ≡ gives (v, n)
+    once_short h f = found_read s a.is (found_front s (rw word_here at h) (rw word_here at f))
 
-    pub once_long : {v n : ℕ} → run (spread 8 w) ≡ 8 → Longest (spread 8 w) (get_or s (at + 8) 0) v n
-        → reading u64 (drop at s) ≡ gives (v, n)
+    pub once_long : {v n : ℕ} → run (spread 8 w) ≡ 8 → Longest (spread 8 w) (get_or s 8 0) v n → reading u64 s ≡ gives (v, n)
     once_long r g =
-        let e = get_or-drop at s 8 0 in
-        found_read (drop at s) a.is
-        (found_long (drop at s) a.is (rw (length-drop at s) (omega (arith, a.room))) (omega (arith, run_take 8 (drop at s), rw word_here at r))
-        (rw (← e, word_here) at g))
+        found_read s a.is (found_long s a.is a.room (omega (arith, run_take 8 s, rw word_here at r)) (rw word_here at g))

@@ -1,18 +1,21 @@
 -- What a step takes of the numbers left, and what it stores.
 --
---   ready_room   where a step is ready, sixteen bytes and room for sixteen numbers are there,
---   small_room   and so for as many small numbers as sixteen stores found
+--   Stepped ..   a step took the numbers xs of those left, vs, and what it stored behind them lies where the rest will
+--   Steps ..     a step does so, whatever numbers are left, if they are sixteen or more
+--   rest s at    what is left of a list from a place on, as a part of it up to its end; `rest_long`: how long
 --   step_one     a step of one number, read and stored
---   step_none    a step of none
---   step_small   a step of the small numbers at the front, of sixteen bytes stored
-use Prim.Native.Nat.{ℕ, zero, suc, ◌+◌, ◌≤◌, ◌<◌}
+--   few_taken    sixteen bytes have at most sixteen small ones
+--   step_small   a step of the small numbers at the front, of none or of sixteen bytes stored
+use Prim.Native.Nat.{ℕ, zero, suc, ◌+◌, ◌-◌, ◌≤◌, ◌<◌}
 use mathlib.Core.Path.{◌≡◌, refl, ap, sym, ◌∙◌}
-use mathlib.Core.List.{List, [], ◌∷◌, ◌++◌}
-use native.Mathlib.Nat.{add-zero}
+use mathlib.Core.List.{List, [], ◌∷◌, ◌++◌, append_assoc, append-nil}
+use native.Mathlib.Nat.{add-zero, min-le_left}
 use native.Mathlib.Numerals.{add-one}
 use native.Mathlib.Omega.{arith}
-use lib.ListN.{length, get_or, take, drop, set, length-drop, length-append, take-append-drop}
-use lib.Seq.{sets, drop-cons, length-take-le}
+use lib.ListN.{length, get_or, take, drop, set, length-drop, length-take, length-append, take-append-drop, drop_of_length-le}
+use lib.Seq.{sets, sets-eq, drop-cons, drop-drop, length-take-le}
+use borrow.Rule.Slice.PartMut.{put_mid}
+use Rattle.std.proofs.lemmas.List.{take_rest}
 use Rattle.words.specs.Answer.{gives}
 use Rattle.words.proofs.Cases.{by_order}
 use Rattle.groups.specs.Width.{reading}
@@ -21,23 +24,37 @@ use Rattle.uleb128.specs.Unsigned.{u64}
 use Rattle.lists.specs.InnerWord.{smalls}
 use Rattle.lists.specs.InnerWide.{Stores}
 use Rattle.lists.specs.InnerLeft.{Left}
-use Rattle.lists.specs.InnerHalves.{Ready, Stepped, Steps}
+use Rattle.lists.specs.InnerHalves.{Smalls, none, some}
 use Rattle.lists.proofs.quick.Smalls.{smalls_none, small_low, small_high, smalls_within}
 use Rattle.lists.proofs.quick.Front.{left_within, front_read}
+
+-- a part up to the end
+abbrev pub rest : List ℕ → ℕ → List ℕ
+rest s at = take (length s - at) (drop at s)
+
+pub rest_long : (s : List ℕ) (at n : ℕ) → at + n ≤ length s → n ≤ length (rest s at)
+rest_long s at n h = rw (take_rest s at, length-drop at s) (omega arith)
+
+put_rest : (k : ℕ) (old out : List ℕ) → k ≤ length old → put_mid k (length old - k) old out ≡ take k old ++ out
+put_rest k old out h =
+    let none : drop (length old - k) (drop k old) ≡ [] = drop_of_length-le (drop k old) (rw (length-drop k old) (omega arith)) in
+    ap (λ (l : List ℕ). take k old ++ (out ++ l)) none ∙ ap (λ (l : List ℕ). take k old ++ l) (append-nil out)
 
 sixteen_there : (s : List ℕ) (at : ℕ) → at + 16 ≤ length s → length (take 16 (drop at s)) ≡ 16
 sixteen_there s at h = length-take-le 16 (drop at s) (rw (length-drop at s) (omega arith))
 
-module _ {s : List ℕ} {at n room : ℕ} (r : Ready s at n room) where
-  pub ready_room : (at + 16 ≤ length s) × (n + 16 ≤ room)
-  ready_room = (omega (arith, left_within r.left), omega arith)
+pub record Stepped (s : List ℕ) (to at : ℕ) (vs old : List ℕ) (n at2 n2 : ℕ) (out : List ℕ) : Type 0 where
+  pub xs : List ℕ
+  pub junk : List ℕ
+  pub rest : List ℕ
+  pub split : vs ≡ xs ++ rest
+  pub left : Left s to at2 rest
+  pub count : n2 ≡ n + length xs
+  pub leaves : out ≡ sets old n (xs ++ junk)
+  pub covered : length junk ≤ length rest
 
-  pub small_room : {k : ℕ} {old out : List ℕ} → Stores 16 s at old n k out → (at + k ≤ length s) × (n + k ≤ room)
-  small_room t =
-      let l = smalls_within (take 16 (drop at s)) in
-      let m = t.many in
-      let q = sixteen_there s at ready_room.0 in
-      (omega (arith, ready_room.0), omega (arith, ready_room.1))
+abbrev pub Steps : List ℕ → ℕ → List ℕ → ℕ → ℕ → ℕ → List ℕ → Type 0
+Steps s at old n at2 n2 out = (to : ℕ) (vs : List ℕ) → Left s to at vs → to ≤ length s → 16 ≤ length vs → Stepped s to at vs old n at2 n2 out
 
 pub step_one : {s : List ℕ} {to at v n : ℕ} {vs : List ℕ} (old : List ℕ) (k : ℕ) → Left s to at vs → at < to
     → reading u64 (drop at s) ≡ gives (v, n) → Stepped s to at vs old k (at + n) (k + 1) (set old k v)
@@ -54,7 +71,7 @@ step_one {v = v} old k l h e =
       covered = omega arith;
     }
 
-pub step_none : (s : List ℕ) (at : ℕ) (old : List ℕ) (k : ℕ) → Steps s at old k at k old
+step_none : (s : List ℕ) (at : ℕ) (old : List ℕ) (k : ℕ) → Steps s at old k at k old
 step_none s at old k to vs l w m = record {
   xs = [];
   junk = [];
@@ -102,13 +119,15 @@ small_front (suc k) {s} {to} {at} {vs} w h l =
     one_more_small (get_or s at 0) o e f.is (small_front k w more f.left))
     (λ o. no_small (take (suc k) (drop at s)) (rw e (small_high (get_or s at 0) (take k (drop (at + 1) s)) o)) l)
 
-pub step_small : {s : List ℕ} {at k r : ℕ} {old out : List ℕ} → Stores 16 s at old k r out → Steps s at old k (at + r) (k + r) out
-step_small {s} {at} {k} {r} {old} t to vs l w m =
+step_stored : {s : List ℕ} {at k r : ℕ} {old out : List ℕ} → k + 16 ≤ length old → Stores (drop at s) (drop k old) r out
+    → Steps s at old k (at + r) (k + r) (take k old ++ out)
+step_stored {s} {at} {k} {r} {old} room t to vs l w m =
     let b = left_within l in
     let g = take 16 (drop at s) in
     let z = small_front 16 w (omega arith) l in
     let long : length g ≡ 16 = sixteen_there s at (omega arith) in
     let few : length (take (smalls g) g) ≡ smalls g = length-take-le (smalls g) g (smalls_within g) in
+    let behind : drop 16 (drop k old) ≡ drop (k + length g) old = rw long (drop-drop 16 k old) in
     record {
       xs = take (smalls g) g;
       junk = drop (smalls g) g;
@@ -116,8 +135,22 @@ step_small {s} {at} {k} {r} {old} t to vs l w m =
       split = z.split;
       left = rw t.many z.left;
       count = rw (t.many, few);
-      leaves = t.leaves ∙ ap (sets old k) (sym (take-append-drop (smalls g) g));
+      leaves = rw (t.leaves, behind, ← append_assoc (take k old) g (drop (k + length g) old)) (sym (sets-eq g old k (omega arith))) ∙ ap (sets old k) (sym (take-append-drop (smalls g) g));
       covered =
           let q = ap length z.split ∙ length-append (take (smalls g) g) z.rest in
           rw (length-drop (smalls g) g) (omega arith);
     }
+
+step_few : (s : List ℕ) (at : ℕ) (old : List ℕ) (k : ℕ) {r : ℕ} {out : List ℕ} → k + 16 ≤ length old → Smalls (drop at s) (drop k old) r out
+    → Steps s at old k (at + r) (k + r) (take k old ++ out)
+step_few s at old k room none = rw (take-append-drop k old, add-zero at, add-zero k) (step_none s at old k)
+step_few s at old k room (some t) = step_stored room t
+
+pub few_taken : {s old : List ℕ} {r : ℕ} {out : List ℕ} → Stores s old r out → r ≤ 16
+few_taken {s = s} t = omega (arith, t.many, smalls_within (take 16 s), length-take 16 s, min-le_left 16 (length s))
+
+pub step_small : (s : List ℕ) (at : ℕ) (old : List ℕ) (k : ℕ) {r : ℕ} {out : List ℕ} → k + 16 ≤ length old → Smalls (rest s at) (rest old k) r out
+    → Steps s at old k (at + r) (k + r) (put_mid k (length old - k) old out)
+step_small s at old k {out = out} room t =
+    let e : put_mid k (length old - k) old out ≡ take k old ++ out = put_rest k old out (omega arith) in
+    rw e (step_few s at old k room (rw (take_rest s at, take_rest old k) at t))

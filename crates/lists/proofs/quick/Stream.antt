@@ -3,8 +3,7 @@
 --   Stream s to end at n       numbers are left from at to the place to, and stored from the n-th on they end at the end-th
 --   stream_inside              a byte or more is there for each of them
 --   stream_rest                what is asked for the last few of them,
---   stream_accepts             for one, where ten are left,
---   stream_ready               and for a step, where sixteen are
+--   stream_accepts             and for one, where ten are left
 --   stream_one                 a number that was read and stored is a step
 --   stream_steps               what a step promises is a step of what is left
 --   stream_counts, stream_on   after a step the stream is there still, further on, and ends where it did;
@@ -14,17 +13,17 @@ use Prim.Native.Nat.{ℕ, ◌+◌, ◌≤◌, ◌<◌}
 use mathlib.Core.Path.{◌≡◌, ap, ◌∙◌}
 use mathlib.Core.List.{List, ◌++◌}
 use native.Mathlib.Omega.{arith}
-use lib.ListN.{length, drop, set, length-append}
+use lib.ListN.{length, drop, set, length-append, length-drop}
 use lib.Seq.{sets, length-sets}
 use Rattle.words.specs.Answer.{gives}
 use Rattle.groups.specs.Width.{reading}
 use Rattle.uleb128.specs.Unsigned.{u64}
 use Rattle.lists.specs.InnerWide.{Accepts}
 use Rattle.lists.specs.InnerLeft.{Left}
-use Rattle.lists.specs.InnerHalves.{Ready, Stepped, Steps, RestFits}
+use Rattle.lists.specs.InnerHalves.{RestFits}
 use Rattle.lists.proofs.quick.Overwriting.{sets_apart, sets_gone_on}
 use Rattle.lists.proofs.quick.Front.{left_within, front}
-use Rattle.lists.proofs.quick.Steps.{step_one}
+use Rattle.lists.proofs.quick.Steps.{Stepped, Steps, step_one}
 
 pub record Stream (s : List ℕ) (to end at n : ℕ) : Type 0 where
   pub vs : List ℕ
@@ -39,21 +38,11 @@ module _ {s : List ℕ} {to end at n : ℕ} (a : Stream s to end at n) where
   pub stream_rest : {room : ℕ} → end ≤ room → RestFits s at to n room
   stream_rest r = record { vs = a.vs; left = a.left; within = a.within; enough = omega (arith, a.counts) }
 
-  pub stream_accepts : n + 10 ≤ end → Accepts s at
+  pub stream_accepts : n + 10 ≤ end → Accepts (drop at s)
   stream_accepts m =
       let i = stream_inside in
       let f = front a.left (omega (arith, a.counts)) in
-      record { room = omega (arith, a.counts, a.within); value = f.0; count = f.1; is = f.2 }
-
-  pub stream_ready : {room : ℕ} → n + 16 ≤ end → end ≤ room → Ready s at n room
-  stream_ready m r = record {
-    to = to;
-    vs = a.vs;
-    left = a.left;
-    within = a.within;
-    many = omega (arith, a.counts);
-    enough = omega (arith, a.counts);
-  }
+      record { room = rw (length-drop at s) (omega (arith, a.counts, a.within)); value = f.0; count = f.1; is = f.2 }
 
   pub stream_one : {v m : ℕ} (old : List ℕ) → n < end → reading u64 (drop at s) ≡ gives (v, m)
       → Stepped s to at a.vs old n (at + m) (n + 1) (set old n v)

@@ -1,34 +1,24 @@
 // The second pass: the numbers of a block without a fault, stored in two streams.
-ghost use Rattle.std.specs.Prelude.{◌≡◌, true, ◌-◌, ◌≤◌, ◌<◌, length};
+ghost use Rattle.std.specs.Prelude.{◌≡◌, ◌≤◌, length};
 ghost use Rattle.blocks.specs.GroupsAndTail.{Start};
-ghost use Rattle.lists.specs.InnerHalves.{Ready, Steps, RestFits, RestStored, HalvesFit, HalvesStored, AllFit, AllStored};
+ghost use Rattle.lists.specs.InnerHalves.{Smalls, RestFits, RestStored, HalvesFit, HalvesStored, AllFit, AllStored};
 
 use crate::quick::lows::low_bytes;
 use crate::quick::wide::{at_once, store16};
-use bits::is_high_8_bit_set;
 use uleb128::read_u64;
 use words::Place;
 
-// How far a stream has come: its place in the block, and how many numbers stand in the slice before its next.
-#[derive(Clone, Copy)]
-struct Reached {
-    at: usize,
-    n: usize,
-}
-
-// Up to sixteen small numbers, if the first is one. Apart from `at_once`: together they would be too large to become part of the loop twice.
-fn small(s: &[u8], at: usize, numbers: &mut [u64], n: usize) -> Reached
-    requires { Ready s.now at n (length numbers.old) }
-    ensures { Steps s.now at numbers.old n result.at result.n numbers.new }
+// Takes up to sixteen small numbers from the front, if the first is one, and says how many. Apart from `at_once`: together they would be too large to
+// become part of the loop twice.
+fn small(s: &[u8], numbers: &mut [u64]) -> usize
+    requires { (16 ≤ length s.now) × (16 ≤ length numbers.old) }
+    ensures few { result ≤ 16 }
+    ensures stored { Smalls s.now numbers.old result numbers.new }
 {
-    let high = is_high_8_bit_set(s[at]);
-    if high {
-        return Reached { at, n };
+    if 128 <= s[0] {
+        return 0;
     }
-    let k = store16(s, at, numbers, n);
-    let next = at + k;
-    let m = n + k;
-    Reached { at: next, n: m }
+    store16(s, numbers)
 }
 
 // The numbers from a place to another, one by one: the last few of each half, where sixteen bytes or sixteen stores would be too many.
@@ -53,61 +43,35 @@ fn rest(s: &[u8], numbers: &mut [u64], from: usize, to: usize, start: usize)
     }
 }
 
-// n less 16, or 0: asked once, so that the loop's head compares and adds nothing.
-fn but_16(n: usize) -> usize
-    ensures { result ≡ n - 16 }
-{
-    if n < 16 {
-        return 0;
-    }
-    n - 16
-}
-
-// Whether both streams have 17 numbers left: so many bytes, and room for so many, are then left too. Two comparisons, guessed right but for
-// the last.
-fn go_on(n: usize, most: usize, n2: usize, most2: usize) -> bool
-    ensures { result ≡ true → (n < most) × (n2 < most2) }
-{
-    if n < most {
-        return n2 < most2;
-    }
-    false
-}
-
 // From 0 to mid, whose numbers end at half, and from mid to the end, whose numbers end at count. Where the next number of a stream begins is
 // known only when the last was taken: meanwhile the processor works on the other stream. A turn takes up to 17 numbers of each, a long one
-// and then up to sixteen small ones.
+// and then up to sixteen small ones: while both streams have so many left, so many bytes, and room for so many, are left too.
 fn fill_halves(s: &[u8], numbers: &mut [u64], mid: usize, half: usize, count: usize)
     requires { HalvesFit s.now mid half count (length numbers.old) }
     ensures { HalvesStored s.now mid half count numbers.old numbers.new }
 {
-    let end = s.len();
-    let most = but_16(half);
-    let most2 = but_16(count);
-    let mut at: usize = 0;
-    let mut n: usize = 0;
-    let mut at2 = mid;
-    let mut n2 = half;
-    while go_on(n, most, n2, most2) {
-        let g = at_once(s, at);
-        let h = at_once(s, at2);
-        let taken = g.n;
-        let taken2 = h.n;
-        numbers[n] = g.v;
-        numbers[n2] = h.v;
-        let next = at + taken;
-        let next2 = at2 + taken2;
-        let m = n + 1;
-        let m2 = n2 + 1;
-        let a = small(s, next, numbers, m);
-        at = a.at;
-        n = a.n;
-        let b = small(s, next2, numbers, m2);
-        at2 = b.at;
-        n2 = b.n;
+    let most = half.saturating_sub(16);
+    let most2 = count.saturating_sub(16);
+    let (mut at, mut n) = (0, 0);
+    let (mut at2, mut n2) = (mid, half);
+    while n < most && n2 < most2 {
+        let (v, taken) = at_once(&s[at..]);
+        let (v2, taken2) = at_once(&s[at2..]);
+        numbers[n] = v;
+        numbers[n2] = v2;
+        at += taken;
+        at2 += taken2;
+        n += 1;
+        n2 += 1;
+        let k = small(&s[at..], &mut numbers[n..]);
+        at += k;
+        n += k;
+        let k2 = small(&s[at2..], &mut numbers[n2..]);
+        at2 += k2;
+        n2 += k2;
     }
     rest(s, numbers, at, mid, n);
-    rest(s, numbers, at2, end, n2);
+    rest(s, numbers, at2, s.len(), n2);
 }
 
 // The greatest start at or before a place: in a block of numbers it is less than ten bytes away.
@@ -115,16 +79,7 @@ fn start_before(s: &[u8], place: usize) -> usize
     requires { place ≤ length s.now }
     ensures { Start s.now result }
 {
-    let mut at = place;
-    while 0 < at {
-        let before = at - 1;
-        let high = is_high_8_bit_set(s[before]);
-        if !high {
-            return at;
-        }
-        at = before;
-    }
-    at
+    s[..place].iter().rposition(|b| *b < 128).map_or(0, |last| last + 1)
 }
 
 // The numbers of a block without a fault, so many of them, from the front of the slice on. The halves are equal in bytes, since their start is

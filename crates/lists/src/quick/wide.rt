@@ -1,57 +1,18 @@
 // Eight bytes at once: a long number, and small ones.
-ghost use Rattle.std.specs.Prelude.{◌≡◌, ◌+◌, ◌≤◌, ◌<◌, length, take, drop};
+ghost use Rattle.std.specs.Prelude.{◌≡◌, ◌+◌, ◌≤◌, ◌<◌, length, take};
 ghost use Rattle.words.specs.Answer.{gives};
 ghost use Rattle.groups.specs.Group.{run, digits};
 ghost use Rattle.groups.specs.Width.{reading};
 ghost use Rattle.uleb128.specs.Unsigned.{u64};
-ghost use Rattle.lists.specs.InnerWord.{little, spread, each, low, top, mark, zeros, Below, Flags};
-ghost use Rattle.lists.specs.InnerWide.{Accepts, Found, Longest, Widens, Stores};
+ghost use Rattle.lists.specs.InnerWord.{little, spread, each, low, top, mark, zeros, smalls, Below, Flags};
+ghost use Rattle.lists.specs.InnerWide.{Accepts, Found, Longest, Stores};
 
-use bits::{is_high_8_bit_set, take_low_7_bits};
-
-// A number, and how many bytes it takes.
-#[derive(Clone, Copy)]
-pub(crate) struct Taken {
-    pub v: u64,
-    pub n: usize,
-}
-
-// A byte's number. A cast in a function of its own asks nothing where it is called, and costs nothing: it is inlined.
-fn as_u64(x: u8) -> u64
-    ensures { result ≡ x }
+// The eight bytes at the front as one number, low byte first: one load.
+fn word(s: &[u8]) -> u64
+    requires { 8 ≤ length s.now }
+    ensures { result ≡ little (take 8 s.now) }
 {
-    x as u64
-}
-
-// Two bytes as one number, low byte first. By `|` and `<<`, here and in the next two: LLVM makes one load of all eight bytes of it, where a sum or
-// Horner's rule becomes five or eight.
-fn word2(s: &[u8], at: usize) -> u64
-    requires { at + 2 ≤ length s.now }
-    ensures { result ≡ little (take 2 (drop at s.now)) }
-{
-    let low = as_u64(s[at]);
-    let high = as_u64(s[at + 1]);
-    low | (high << 8)
-}
-
-// Four bytes.
-fn word4(s: &[u8], at: usize) -> u64
-    requires { at + 4 ≤ length s.now }
-    ensures { result ≡ little (take 4 (drop at s.now)) }
-{
-    let low = word2(s, at);
-    let high = word2(s, at + 2);
-    low | (high << 16)
-}
-
-// Eight bytes.
-fn word8(s: &[u8], at: usize) -> u64
-    requires { at + 8 ≤ length s.now }
-    ensures { result ≡ little (take 8 (drop at s.now)) }
-{
-    let low = word4(s, at);
-    let high = word4(s, at + 4);
-    low | (high << 32)
+    u64::from_le_bytes(*s[..8].as_array().unwrap())
 }
 
 // The high bits of the eight bytes: one `&`.
@@ -80,7 +41,7 @@ fn first(h: u64) -> usize
     requires { Flags (spread 8 h) }
     ensures { result ≡ zeros (spread 8 h) }
 {
-    (u64::trailing_zeros(h) / 8) as usize
+    (h.trailing_zeros() / 8) as usize
 }
 
 // Eight digits put together, by pairs (256 becomes 128), by fours (65,536 becomes 16,384) and by eights (2^32 becomes 2^28), each by taking
@@ -104,107 +65,80 @@ fn joined(w: u64) -> u64
     join(low_digits(w))
 }
 
-// A number of nine or ten bytes: w has eight of them, b is the ninth, whose digit weighs 2^56; a tenth can only be 1, and weighs 2^63. Each
-// length has a way of its own: without the branch, the next number of a block of such numbers would wait for the ninth byte.
-fn longest(w: u64, b: u8) -> Taken
-    ensures { Longest (spread 8 w) b result.v result.n }
+// A number of nine or ten bytes, and how many: w has eight of them, b is the ninth, whose digit weighs 2^56; a tenth can only be 1, and weighs 2^63.
+// Each length has a way of its own: without the branch, the next number of a block of such numbers would wait for the ninth byte.
+fn longest(w: u64, b: u8) -> (u64, usize)
+    ensures { Longest (spread 8 w) b result.0 result.1 }
 {
     let sum = joined(w);
-    let high = is_high_8_bit_set(b);
-    if !high {
-        let part = 72057594037927936 * as_u64(b);
-        let v = sum + part;
-        return Taken { v, n: 9 };
+    if b < 128 {
+        let part = 72057594037927936 * u64::from(b);
+        return (sum + part, 9);
     }
-    let digit = as_u64(take_low_7_bits(as_u64(b)));
+    let digit = u64::from(b % 128);
     let part = 72057594037927936 * digit;
-    let most = sum + part;
-    let v = most + 9223372036854775808;
-    Taken { v, n: 10 }
+    (sum + part + 9223372036854775808, 10)
 }
 
-// A number of one to eight bytes: m has the bits of the bytes of w that are below 128. The remainder by a power of two is a mask, so that
-// numbers of all these lengths go one way, without a branch.
-fn short(w: u64, m: u64) -> Taken
+// A number of one to eight bytes, and how many: m has the bits of the bytes of w that are below 128. The remainder by a power of two is a mask, so
+// that numbers of all these lengths go one way, without a branch.
+fn short(w: u64, m: u64) -> (u64, usize)
     requires { (m ≡ little (each mark (spread 8 w))) × (run (spread 8 w) < 8) }
-    ensures { Found (spread 8 w) result.v result.n }
+    ensures { Found (spread 8 w) result.0 result.1 }
 {
     let n = first(m) + 1;
-    let bits = 7 * n;
-    let weight: u64 = 1 << bits;
-    let sum = joined(w);
-    let v = sum % weight;
-    Taken { v, n }
+    let weight: u64 = 1 << (7 * n);
+    (joined(w) % weight, n)
 }
 
 // A number of two bytes, without waiting for where the first byte below 128 is.
-fn two(w: u64) -> Taken
+fn two(w: u64) -> (u64, usize)
     requires { run (spread 8 w) ≡ 1 }
-    ensures { Found (spread 8 w) result.v result.n }
+    ensures { Found (spread 8 w) result.0 result.1 }
 {
-    let lower = as_u64(take_low_7_bits(w));
-    let upper = as_u64(take_low_7_bits(w / 256));
-    let part = 128 * upper;
-    let v = lower + part;
-    Taken { v, n: 2 }
+    let lower = w % 128;
+    let upper = w / 256 % 128;
+    (lower + 128 * upper, 2)
 }
 
-// The number at a place that ten bytes of the block follow. Two bytes have a test of their own: without it a block of such numbers takes
-// two and a half times as long, since each waits for the count of the one before.
-pub(crate) fn at_once(s: &[u8], at: usize) -> Taken
-    requires { Accepts s.now at }
-    ensures { reading u64 (drop at s.now) ≡ gives (result.v, result.n) }
+// The number at the front, and how many bytes it takes, where the block has ten from there on. Two bytes have a test of their own: without it a block
+// of such numbers takes two and a half times as long, since each waits for the count of the one before.
+pub(crate) fn at_once(s: &[u8]) -> (u64, usize)
+    requires { Accepts s.now }
+    ensures { reading u64 s.now ≡ gives (result.0, result.1) }
 {
-    let w = word8(s, at);
+    let w = word(s);
     if w & 0x8080 == 0x0080 {
         return two(w);
     }
     let m = marks(w);
-    if m < 1 {
-        return longest(w, s[at + 8]);
+    if m == 0 {
+        return longest(w, s[8]);
     }
     short(w, m)
 }
 
-// Stores two bytes as numbers. Here and in the next three there is no loop and no branch: LLVM stores two numbers at once.
-fn store2(s: &[u8], at: usize, numbers: &mut [u64], n: usize)
-    requires { (at + 2 ≤ length s.now) × (n + 2 ≤ length numbers.old) }
-    ensures { Widens 2 s.now at numbers.old n numbers.new }
+// How many of the eight bytes at the front, from there on, are below 128.
+fn small_of_eight(s: &[u8]) -> usize
+    requires { 8 ≤ length s.now }
+    ensures { (result ≡ smalls (take 8 s.now)) × (result ≤ 8) }
 {
-    let a = as_u64(s[at]);
-    let b = as_u64(s[at + 1]);
-    numbers[n] = a;
-    numbers[n + 1] = b;
+    first(highs(word(s)))
 }
 
-// Four bytes.
-fn store4(s: &[u8], at: usize, numbers: &mut [u64], n: usize)
-    requires { (at + 4 ≤ length s.now) × (n + 4 ≤ length numbers.old) }
-    ensures { Widens 4 s.now at numbers.old n numbers.new }
+// Stores sixteen bytes as numbers, and says how many of them, from the front, are below 128: what was stored behind those is overwritten later. They
+// are stored before it is known whether all of the first eight are below 128, since a branch there would be guessed wrong too often; and from a copy
+// of their own, which no store can change, so that LLVM stores two numbers at once.
+pub(crate) fn store16(s: &[u8], numbers: &mut [u64]) -> usize
+    requires { (16 ≤ length s.now) × (16 ≤ length numbers.old) }
+    ensures { Stores s.now numbers.old result numbers.new }
 {
-    store2(s, at, numbers, n);
-    store2(s, at + 2, numbers, n + 2);
-}
-
-// Eight bytes, and says how many of them, from the front, are below 128. What was stored behind those is overwritten later.
-fn store8(s: &[u8], at: usize, numbers: &mut [u64], n: usize) -> usize
-    requires { (at + 8 ≤ length s.now) × (n + 8 ≤ length numbers.old) }
-    ensures { Stores 8 s.now at numbers.old n result numbers.new }
-{
-    let w = word8(s, at);
-    store4(s, at, numbers, n);
-    store4(s, at + 4, numbers, n + 4);
-    first(highs(w))
-}
-
-// Sixteen bytes. The second eight are stored before it is known whether all of the first are below 128: a branch there would be
-// guessed wrong too often.
-pub(crate) fn store16(s: &[u8], at: usize, numbers: &mut [u64], n: usize) -> usize
-    requires { (at + 16 ≤ length s.now) × (n + 16 ≤ length numbers.old) }
-    ensures { Stores 16 s.now at numbers.old n result numbers.new }
-{
-    let c = store8(s, at, numbers, n);
-    let d = store8(s, at + 8, numbers, n + 8);
+    let bytes: [u8; 16] = *s[..16].as_array().unwrap();
+    for k in 0..16 {
+        numbers[k] = u64::from(bytes[k]);
+    }
+    let c = small_of_eight(s);
+    let d = small_of_eight(&s[8..]);
     if c < 8 {
         return c;
     }

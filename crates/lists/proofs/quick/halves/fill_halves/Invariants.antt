@@ -3,8 +3,8 @@ use Rattle.std.proofs.Common.{◌-◌}
 use Rattle.lists.proofs.quick.HalvesLoop.{Filling}
 use Rattle.lists.proofs.quick.halves.fill_halves.Given as goal
 
-abbrev pub invariant-loop-g : goal.invariant-loop-g
-invariant-loop-g l = Filling l.s l.mid l.half l.count l.fn.numbers l.numbers l.at l.n l.at2 l.n2
+abbrev pub invariant-loop-n : goal.invariant-loop-n
+invariant-loop-n l = Filling l.s l.mid l.half l.count l.fn.numbers l.numbers l.at l.n l.at2 l.n2
 
-abbrev pub decreases-loop-g : goal.decreases-loop-g
-decreases-loop-g l = l.half - l.n
+abbrev pub decreases-loop-n : goal.decreases-loop-n
+decreases-loop-n l = l.half - l.n

@@ -19,14 +19,14 @@ few c = rw (run_found c) c.requires.1
 pub overflow_add-n : goal.overflow_add-n
 overflow_add-n c = omega (arith, few c)
 
-pub overflow_mul-bits : goal.overflow_mul-bits
-overflow_mul-bits c = omega (arith, few c)
+pub overflow_mul-weight : goal.overflow_mul-weight
+overflow_mul-weight c = omega (arith, few c)
 
 pub overflow_shl-weight : goal.overflow_shl-weight
 overflow_shl-weight c = omega (arith, few c)
 
-pub nonzero_rem-v : goal.nonzero_rem-v
-nonzero_rem-v c = weight_some _ (omega (arith, c.first-n.ensures, tells_count marks_tell c.args.w c.requires.0))
+pub nonzero_rem-result : goal.nonzero_rem-result
+nonzero_rem-result c = weight_some _ (omega (arith, c.first-n.ensures, tells_count marks_tell c.args.w c.requires.0))
 
 pub returns : goal.returns
-returns c = found_short c.args.w c.requires.1 (c.first-n.ensures ∙ tells_count marks_tell c.args.w c.requires.0) c.joined-sum.ensures
+returns c = found_short c.args.w c.requires.1 (c.first-n.ensures ∙ tells_count marks_tell c.args.w c.requires.0) c.joined.ensures
