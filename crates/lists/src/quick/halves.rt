@@ -79,7 +79,10 @@ fn start_before(s: &[u8], place: usize) -> usize
     requires { place ≤ length s.now }
     ensures { Start s.now result }
 {
-    s[..place].iter().rposition(|b| *b < 128).map_or(0, |last| last + 1)
+    s[..place]
+        .iter()
+        .rposition(|b| *b < 128)
+        .map_or(0, |last| last + 1)
 }
 
 // The numbers of a block without a fault, so many of them, from the front of the slice on. The halves are equal in bytes, since their start is
