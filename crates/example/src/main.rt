@@ -20,6 +20,12 @@ fn say_written(out: &impl Print, written: Result<Count, Refusal>) -> io::Result<
     }
 }
 
+fn show_writing(out: &impl Print, buffer: &mut [u8]) -> io::Result<()> {
+    say_written(out, uleb128::write_u64(12857, buffer, Place(3)))?;
+    say_written(out, sleb128::write_i64(-2, buffer, Place(5)))?;
+    say_written(out, sleb128::write_i64(128, buffer, Place(7)))
+}
+
 fn say_refused(out: &impl Print, refusal: Refusal) -> io::Result<()> {
     println!(out; "refused {}", words::number(refusal))
 }
@@ -157,12 +163,6 @@ fn say_entry(out: &impl Print, entry: Entry) -> io::Result<()> {
     println!(out; "segment {}", entry.segment)?;
     println!(out; "sentence {}", entry.sentence)?;
     say_meaning(out, entry.turn, turns::RIGHT)
-}
-
-fn show_writing(out: &impl Print, buffer: &mut [u8]) -> io::Result<()> {
-    say_written(out, uleb128::write_u64(12857, buffer, Place(3)))?;
-    say_written(out, sleb128::write_i64(-2, buffer, Place(5)))?;
-    say_written(out, sleb128::write_i64(128, buffer, Place(7)))
 }
 
 fn show_reading(out: &impl Print, bytes: &[u8]) -> io::Result<()> {
