@@ -3,17 +3,17 @@
 --   same_step, same_set_down   answers that mean the same are the same
 use Prim.Native.Nat.{ℕ}
 use mathlib.Core.Path.{◌≡◌, refl, ap}
+use Rattle.std.specs.Prelude.{Result, Ok, Err}
 use Rattle.words.specs.Answer.{number_in}
+use Rattle.words.specs.declared.Refusal.{Refusal}
 use Rattle.words.proofs.OneNumber.{refusal_of, refusal_back}
 use Rattle.words.proofs.OneMeaning.{same_by, back, place_in}
+use Rattle.groups.specs.declared.Value.{Value}
+use Rattle.groups.specs.declared.Value.TheVariants as N
 use Rattle.blocks.specs.Block.{Val, unsigned, signed, Stepped, number, gap, tail, finished, refuses}
 use Rattle.blocks.specs.Promise.{means_value, means_step, means_set_down}
 use Rattle.blocks.specs.declared.Step.{Step}
 use Rattle.blocks.specs.declared.Step.TheVariants as S
-use Rattle.groups.specs.declared.Value.{Value}
-use Rattle.groups.specs.declared.Value.TheVariants as N
-use Rattle.std.specs.Prelude.{Result, Ok, Err}
-use Rattle.words.specs.declared.Refusal.{Refusal}
 use Rattle.blocks.specs.declared.Cursor.{Cursor}
 
 pub same_step : (r r' : Result Step Refusal) → means_step r ≡ means_step r' → r ≡ r'

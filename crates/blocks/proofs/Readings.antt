@@ -9,6 +9,7 @@ use mathlib.Core.List.{List, [], ◌∷◌}
 use mathlib.Core.Logic.{◌↔◌}
 use native.Mathlib.Omega.{arith}
 use lib.ListN.{length, drop}
+use Rattle.std.specs.Prelude.{Result, Ok, Err}
 use Rattle.words.specs.Answer.{Answer, gives, refused, because_at}
 use Rattle.words.specs.declared.Refusal.{Refusal}
 use Rattle.blocks.specs.Block.{Val, read_by}
@@ -23,7 +24,6 @@ use Rattle.blocks.specs.declared.Step.{Step}
 use Rattle.blocks.specs.declared.Step.TheVariants as S
 use Rattle.blocks.proofs.FromStart.{front_start, group_here, here_long, next_start, end_cut, tail_cut, group_cut}
 use Rattle.blocks.proofs.StepRows.{step_row_kept, some_step_row, step_rows}
-use Rattle.std.specs.Prelude.{Result, Ok, Err}
 
 module _ (f : ℕ → Rule) (s : List ℕ) where
   -- the readings from a place on

@@ -13,6 +13,7 @@ use mathlib.Core.Logic.{◌↔◌, inl, inr, ⊎_elim}
 use native.Mathlib.Omega.{arith}
 use lib.ListN.{length, get_or, drop, length-drop}
 use lib.Seq.{get_or-drop}
+use Rattle.std.specs.Prelude.{Result, Ok, Err}
 use Rattle.words.specs.declared.Refusal.{Refusal}
 use Rattle.words.specs.declared.Refusal.TheVariants.{Place, TooLong, NoStart}
 use Rattle.words.proofs.Cases.{by_order}
@@ -28,7 +29,6 @@ use Rattle.blocks.specs.declared.Cursor.{Cursor}
 use Rattle.blocks.proofs.Rows.{set_too_long, set_past, set_front, set_found, set_none}
 use Rattle.blocks.proofs.FromStart.{front_start}
 use Rattle.blocks.proofs.OneStep.{same_set_down}
-use Rattle.std.specs.Prelude.{Result, Ok, Err}
 
 abbrev cursor : ℕ → Cursor
 cursor q = record { place = record { 0 = q } }

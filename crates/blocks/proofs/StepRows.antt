@@ -10,6 +10,7 @@ use mathlib.Core.List.{List}
 use mathlib.Core.Logic.{◌↔◌}
 use native.Mathlib.Omega.{arith}
 use lib.ListN.{length, drop, length-drop}
+use Rattle.std.specs.Prelude.{Result, Ok, Err}
 use Rattle.words.specs.Answer.{Answer, gives, refused, because_at, moved}
 use Rattle.words.specs.declared.Count.{Count}
 use Rattle.words.specs.declared.Place.{Place}
@@ -19,6 +20,7 @@ use Rattle.words.proofs.Cases.{by_order, by_test, clash}
 use Rattle.words.proofs.OneMeaning.{by_rows}
 use Rattle.groups.specs.Group.{Bytes}
 use Rattle.groups.specs.Width.{Width, reading}
+use Rattle.groups.specs.declared.Value.TheVariants as N
 use Rattle.groups.proofs.Rows.{reading_cases}
 use Rattle.uleb128.specs.Unsigned.{u64}
 use Rattle.sleb128.specs.Signed.{i64}
@@ -32,11 +34,9 @@ use Rattle.blocks.specs.declared.Rule.{Rule}
 use Rattle.blocks.specs.declared.Rule.TheVariants.{Unsigned, Signed}
 use Rattle.blocks.specs.declared.Step.{Step}
 use Rattle.blocks.specs.declared.Step.TheVariants as S
-use Rattle.groups.specs.declared.Value.TheVariants as N
 use Rattle.blocks.proofs.Rows.{step_too_long, step_past, step_finished, step_not_a_start}
 use Rattle.blocks.proofs.FromStart.{start_true, true_start, AtStart, the_end, a_tail, a_group, from_start, tail_says, group_says, group_here, here_group}
 use Rattle.blocks.proofs.OneStep.{same_step}
-use Rattle.std.specs.Prelude.{Result, Ok, Err}
 
 -- a number or a gap over n bytes, and the cursor at q
 abbrev says_to : Answer Val → ℕ → ℕ → Stepped

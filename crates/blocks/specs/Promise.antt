@@ -6,13 +6,13 @@
 --   SetsDown                     set-down at the place p of the block s
 use Rattle.std.specs.Prelude.{ℕ, List, ◌≡◌, Result, Ok, Err}
 use Rattle.words.specs.Answer.{Answer, gives, refused, because, because_of}
-use Rattle.blocks.specs.Block.{Val, unsigned, signed, Stepped, number, gap, tail, finished, refuses, stepping, setting_down}
-use Rattle.blocks.specs.declared.Rule.{Rule}
+use Rattle.words.specs.declared.Refusal.{Refusal}
 use Rattle.groups.specs.declared.Value.{Value}
 use Rattle.groups.specs.declared.Value.TheVariants as N
+use Rattle.blocks.specs.Block.{Val, unsigned, signed, Stepped, number, gap, tail, finished, refuses, stepping, setting_down}
+use Rattle.blocks.specs.declared.Rule.{Rule}
 use Rattle.blocks.specs.declared.Step.{Step}
 use Rattle.blocks.specs.declared.Step.TheVariants as S
-use Rattle.words.specs.declared.Refusal.{Refusal}
 use Rattle.blocks.specs.declared.Cursor.{Cursor}
 
 abbrev pub means_value : Value → Val

@@ -9,12 +9,12 @@ use Rattle.words.specs.Answer.{Answer, gives, refused, because_at}
 use Rattle.words.specs.declared.Count.{Count}
 use Rattle.words.specs.declared.Refusal.{Refusal}
 use Rattle.groups.specs.Group.{Bytes}
+use Rattle.groups.specs.declared.Value.{Value}
 use Rattle.blocks.specs.Block.{Val, read_by, block_limit}
 use Rattle.blocks.specs.Promise.{means_value, Steps}
 use Rattle.blocks.specs.declared.Cursor.{Cursor}
 use Rattle.blocks.specs.declared.Rule.{Rule}
 use Rattle.blocks.specs.declared.Step.TheVariants as S
-use Rattle.groups.specs.declared.Value.{Value}
 
 pub record Block (s : List ℕ) : Type 0 where
   pub bytes : Bytes s

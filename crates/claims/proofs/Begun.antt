@@ -14,6 +14,7 @@ use mathlib.Core.Path.{◌≡◌, refl, ap, sym, ◌∙◌}
 use native.Mathlib.Omega.{arith}
 use lib.ListN.{length, take, drop, length-append, length-drop, take-append-drop}
 use lib.Seq.{length-take-le, drop_at, drop-append-le, drop-drop, drop-append_seam, take-append_seam}
+use Rattle.std.specs.Prelude.{Ok, Err}
 use Rattle.words.specs.Answer.{means_written, Written}
 use Rattle.words.specs.Lays.{Lays}
 use Rattle.words.specs.Refusal.{number_of}
@@ -24,7 +25,6 @@ use Rattle.words.proofs.Cases.{by_order}
 use Rattle.words.proofs.LaysExactly.{laid_fits, laid_no_room, count_fits}
 use Rattle.words.proofs.OneMeaning.{apart, refused_same}
 use Rattle.groups.specs.Begins.{Begins}
-use Rattle.std.specs.Prelude.{Ok, Err}
 
 module _ (s : List ℕ) (at : ℕ) where
   pub byte_here : {b : ℕ} {l : List ℕ} → drop at s ≡ b ∷ l → at ≤ length s

@@ -14,8 +14,10 @@ use mathlib.Core.Logic.{◌↔◌}
 use native.Mathlib.Omega.{arith}
 use lib.ListN.{length, drop, length-append}
 use lib.Dec.{leb}
+use Rattle.std.specs.Prelude.{Result, Ok}
 use Rattle.words.specs.Answer.{Answer}
 use Rattle.words.specs.declared.Place.{Place}
+use Rattle.words.specs.declared.Refusal.{Refusal}
 use Rattle.words.proofs.Cases.{by_test}
 use Rattle.groups.specs.Group.{run}
 use Rattle.blocks.specs.Block.{Val, says_by}
@@ -34,8 +36,6 @@ use Rattle.blocks.proofs.Readings.{reads_all}
 use Rattle.blocks.proofs.OneStep.{same_step}
 use Rattle.blocks.proofs.StepRows.{says_group, step_row_kept, step_rows}
 use Rattle.claims.specs.OfDamage.{Front, Back, GapMoves, FrontRead, BackRead}
-use Rattle.std.specs.Prelude.{Result, Ok}
-use Rattle.words.specs.declared.Refusal.{Refusal}
 
 -- a step says of a group what its own bytes say
 said : {rule : Rule} {s : List ℕ} {p : ℕ} {g : List ℕ} {r : Result Step Refusal} → Block s → GroupAt s p g → Steps rule s p r → means_step r ≡ says_by rule g p

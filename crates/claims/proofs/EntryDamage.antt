@@ -13,6 +13,8 @@ use mathlib.Core.Logic.{inl, inr, ⊎_elim, ◌↔◌}
 use native.Mathlib.Omega.{arith}
 use borrow.Author.Tests.{le-leb, lt-leb}
 use lib.ListN.{length, drop, length-append}
+use Rattle.std.specs.Prelude.{Result}
+use Rattle.words.specs.declared.Refusal.{Refusal}
 use Rattle.words.proofs.Cases.{by_order}
 use Rattle.groups.specs.Group.{run}
 use Rattle.blocks.specs.Places.{ending, from, less}
@@ -30,8 +32,6 @@ use Rattle.entries.proofs.OneEntry.{entry_bytes, same_entry, one_answered, answe
 use Rattle.entries.proofs.SameList.{ordered_up, same_list, same_triple}
 use Rattle.entries.proofs.InOrder.{given_all}
 use Rattle.claims.specs.OfEntries.{EntryFront, EntryBack, SameMoved, good_moved, bad_moved, EntriesFront, EntriesBack}
-use Rattle.std.specs.Prelude.{Result}
-use Rattle.words.specs.declared.Refusal.{Refusal}
 
 at_entry : {s : List ℕ} {p : ℕ} {e : List ℕ} {r : Result ReadEntry Refusal} → Block s → EntryAt s p e → ReadsEntry s p r
     → (v : Verdict) × Judged (drop 2 e) v × (r ≡ answer_of v (p + length e))

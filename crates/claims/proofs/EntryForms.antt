@@ -15,8 +15,10 @@ use mathlib.Core.Logic.{inr}
 use native.Mathlib.Omega.{arith}
 use lib.ListN.{length, take, drop, take-append-drop}
 use lib.Seq.{take-length, take-take}
+use Rattle.std.specs.Prelude.{Result, Ok}
 use Rattle.words.specs.Answer.{gives, means_written}
 use Rattle.words.specs.declared.Refusal.TheVariants as Why
+use Rattle.words.specs.declared.Refusal.{Refusal}
 use Rattle.words.proofs.LaysExactly.{laid_there}
 use Rattle.words.proofs.OneMeaning.{apart, given, by_answer}
 use Rattle.groups.specs.Group.{Group}
@@ -46,8 +48,6 @@ use Rattle.claims.specs.OfEntries.{OfWidths, GoodForm, OneForm, AbsurdRead, Writ
 use Rattle.claims.proofs.ReadGroup.{read_group}
 use Rattle.claims.proofs.Readers.{mag_of_within}
 use Rattle.claims.proofs.Begun.{refused_by}
-use Rattle.std.specs.Prelude.{Result, Ok}
-use Rattle.words.specs.declared.Refusal.{Refusal}
 
 -- a field of a kind, which tells a number of the kind as a value
 module _ (k : Kind) (tell : Value k → Val) where

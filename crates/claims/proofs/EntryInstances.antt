@@ -13,6 +13,7 @@ use mathlib.Core.Logic.{inl, inr}
 use mathlib.Core.Path.{refl}
 use native.Mathlib.Omega.{arith}
 use lib.IntN.{pos}
+use Rattle.std.specs.Prelude.{Ok, Err}
 use Rattle.words.specs.Lays.{writing, laid}
 use Rattle.words.specs.declared.Refusal.TheVariants as Why
 use Rattle.groups.specs.Form.{spell, spellings}
@@ -30,7 +31,6 @@ use Rattle.entries.proofs.InOrder.{some_given}
 use Rattle.claims.specs.OfEntries.{OfWidths}
 use Rattle.claims.proofs.Readers.{within_of_mag}
 use Rattle.claims.proofs.EntryForms.{form_stands}
-use Rattle.std.specs.Prelude.{Ok, Err}
 
 -- behind the first mark, the next stands at 5
 none_between : (q : ℕ) → 2 ≤ q → q < 5 → GroupAt (0x80 ∷ 0x00 ∷ 0x01 ∷ 0x02 ∷ 0x03 ∷ 0x80 ∷ 0x00 ∷ 0x05 ∷ []) q mark → ⊥

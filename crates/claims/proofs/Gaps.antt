@@ -7,6 +7,7 @@ use mathlib.Core.Path.{◌≡◌}
 use mathlib.Core.List.{List}
 use native.Mathlib.Omega.{arith}
 use lib.ListN.{length}
+use Rattle.std.specs.Prelude.{Ok}
 use Rattle.words.specs.Answer.{Answer, gives, refused, because_at, Why}
 use Rattle.words.specs.declared.Refusal.{Refusal}
 use Rattle.words.proofs.OneMeaning.{apart}
@@ -25,7 +26,6 @@ use Rattle.claims.specs.Table.{GapRow}
 use Rattle.claims.specs.OfBlocks.{GapWithin}
 use Rattle.claims.proofs.Readers.{reading_of}
 use Rattle.claims.proofs.ReadGroup.{read_group}
-use Rattle.std.specs.Prelude.{Ok}
 
 pub decided_within : (k : Kind) (g : List ℕ) (why : Refusal) (j : ℕ) → Group g → reading (width k) g ≡ refused (because_at why j) → j < length g
 decided_within k g why j group e = within why (((read_group k g group).gap why j).0 e)

@@ -16,6 +16,7 @@ use mathlib.Core.List.{List, [], ◌∷◌, ◌++◌}
 use mathlib.Core.Logic.{inr}
 use native.Mathlib.Omega.{arith}
 use lib.ListN.{length, drop}
+use Rattle.std.specs.Prelude.{Ok, Err}
 use Rattle.words.specs.Answer.{gives, refused, because_at}
 use Rattle.words.specs.Lays.{writing, laid}
 use Rattle.words.specs.declared.Count.{Count}
@@ -38,7 +39,6 @@ use Rattle.lists.specs.Promise.{WritesList}
 use Rattle.claims.specs.Kinds.{Kind, loop64, recursive64, unsigned32, signed64, number, refuse, ReadsAs, width, WritesAs}
 use Rattle.claims.specs.OfNumbers.{zero_of}
 use Rattle.claims.proofs.Readers.{number_says, refusal_says}
-use Rattle.std.specs.Prelude.{Ok, Err}
 
 abbrev count : ℕ → Count
 count n = record { 0 = n }

@@ -12,6 +12,7 @@ use native.Mathlib.Omega.{arith}
 use borrow.Author.Tests.{le-leb, le-ltb}
 use lib.ListN.{length, take, drop, length-append}
 use lib.Seq.{take-append_seam, drop-append_seam}
+use Rattle.std.specs.Prelude.{Ok}
 use Rattle.words.specs.Answer.{gives, means_written}
 use Rattle.words.specs.declared.Count.{Count}
 use Rattle.words.proofs.Cases.{by_order}
@@ -33,7 +34,6 @@ use Rattle.claims.specs.OfLists.{ListBack, Of64Bits}
 use Rattle.claims.proofs.ReadGroup.{from_front}
 use Rattle.claims.proofs.RoundTrips.{lays_list, writes_list}
 use Rattle.claims.proofs.Readers.{reading_of}
-use Rattle.std.specs.Prelude.{Ok}
 
 -- a number's form is read, whatever follows it
 read_form : (v : ℕ) (rest : List ℕ) → v < 2 ^ 64 → reading u64 (form v ++ rest) ≡ gives (v, length (form v))

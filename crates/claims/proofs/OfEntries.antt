@@ -9,6 +9,7 @@ use mathlib.Core.Path.{◌≡◌, refl, ap, sym, ◌∙◌, subst}
 use mathlib.Core.Logic.{⊎_elim}
 use native.Mathlib.Omega.{arith}
 use lib.ListN.{length}
+use Rattle.std.specs.Prelude.{Ok, Err}
 use Rattle.words.specs.Answer.{Answer, refused, because_at, Written}
 use Rattle.words.specs.declared.Refusal.{Refusal}
 use Rattle.words.specs.declared.Refusal.TheVariants as Why
@@ -30,7 +31,6 @@ use Rattle.claims.proofs.Begun as begun
 use Rattle.claims.proofs.EntryTries.{entry_tries}
 use Rattle.claims.proofs.EntryForms.{good_form, one_form, absurd_read, written_back, refused_unread}
 use Rattle.claims.proofs.EntryDamage.{entry_front, entry_back, entries_front, entries_back}
-use Rattle.std.specs.Prelude.{Ok, Err}
 
 entry_good : GoodRead
 entry_good s p r w x q = (

@@ -5,7 +5,9 @@ use Prim.Native.Nat.{ℕ}
 use mathlib.Core.Path.{sym, ◌∙◌}
 use mathlib.Core.List.{List}
 use lib.ListN.{length}
+use Rattle.std.specs.Prelude.{Err}
 use Rattle.words.specs.declared.Refusal.TheVariants.{TooLong}
+use Rattle.words.specs.Answer.{Written}
 use Rattle.words.proofs.Cases.{by_order}
 use Rattle.words.proofs.OneMeaning.{same_written}
 use Rattle.words.proofs.Lays.{some_lays}
@@ -17,8 +19,6 @@ use Rattle.claims.specs.OfLists.{OfLists}
 use Rattle.claims.proofs.StrictRows.{strict_rows, strict_row_kept, some_strict_row as strict-found}
 use Rattle.claims.proofs.RoundTrips.{writes_list}
 use Rattle.claims.proofs.ListBack.{list_back}
-use Rattle.std.specs.Prelude.{Err}
-use Rattle.words.specs.Answer.{Written}
 
 some_list : (ns s : List ℕ) (at : ℕ) → (r : Written) × (out : List ℕ) × WritesList ns s at r out
 some_list ns s at =

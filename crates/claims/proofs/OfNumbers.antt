@@ -12,6 +12,7 @@ use lib.IntN.{pos}
 use Rattle.words.specs.Refusal.{number_of}
 use Rattle.words.specs.Lays.{fits}
 use Rattle.words.specs.declared.Count.{Count}
+use Rattle.words.specs.Answer.{Written}
 use Rattle.words.proofs.Lays.{some_lays}
 use Rattle.words.proofs.OneMeaning.{same_lays}
 use Rattle.bits.specs.Macros.{take_low_7_bits_lem, is_high_8_bit_set_lem, set_high_8_bit_lem}
@@ -34,7 +35,6 @@ use Rattle.claims.proofs.RoundTrips.{writes, write_read, read_write, more_behind
 use Rattle.claims.proofs.Forms.{twos_complement, signed_form, one_too_many, signed_most, shortest_form}
 use Rattle.claims.proofs.Growth.{growth_values}
 use Rattle.claims.proofs.Source.{parse_same, serialize_same}
-use Rattle.words.specs.Answer.{Written}
 
 some_written : (k : Kind) (v : Value k) (s : List ℕ) (at : ℕ) → (r : Written) × (out : List ℕ) × WritesAs k v s at r out
 some_written loop64 v s at = some_lays (unsigned.form v) s at

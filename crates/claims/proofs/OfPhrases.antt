@@ -9,6 +9,7 @@ use mathlib.Core.List.{List, [], ◌∷◌, ◌++◌}
 use mathlib.Core.Path.{◌≡◌, refl, ap, sym, ◌∙◌}
 use native.Mathlib.Omega.{arith}
 use lib.ListN.{length, drop}
+use Rattle.std.specs.Prelude.{Ok, Err}
 use Rattle.words.specs.Answer.{Answer, gives, refused, because}
 use Rattle.words.specs.declared.Refusal.{Refusal}
 use Rattle.words.proofs.OneMeaning.{apart, refused_same}
@@ -17,9 +18,8 @@ use Rattle.phrases.specs.Grammar.{Phrase, phrase, sentence, nil, cons, Item, lea
 use Rattle.phrases.specs.Promise.{PhraseRow, Phrased, row, fills, means_read_phrase}
 use Rattle.phrases.proofs.OneReading.{one_item}
 use Rattle.phrases.proofs.OnePhrase.{one_phrased, same_phrase, some_phrase}
-use Rattle.claims.proofs.PhraseSpelled.{phrase_spelled, no_front}
 use Rattle.claims.specs.OfPhrases.{FillsPhrase, LeavesSlice, RefusesPhrase, inside, NestsTo8, EmptyPhrases, OfPhrases}
-use Rattle.std.specs.Prelude.{Ok, Err}
+use Rattle.claims.proofs.PhraseSpelled.{phrase_spelled, no_front}
 
 record FilledBy (s old : List ℕ) (n : ℕ) (out : List ℕ) : Type 0 where
   says : Phrase

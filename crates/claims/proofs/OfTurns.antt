@@ -10,8 +10,10 @@ use mathlib.Core.Logic.{◌↔◌}
 use native.Mathlib.Omega.{arith}
 use lib.Dec.{T, ltb, lt→ltb, ltb→lt}
 use lib.IntN.{ℤ, pos, negsuc}
+use Rattle.std.specs.Prelude.{Result, Ok, Err}
 use Rattle.words.specs.Answer.{gives}
 use Rattle.words.specs.declared.Refusal.TheVariants.{Thread}
+use Rattle.words.specs.declared.Refusal.{Refusal}
 use Rattle.words.proofs.OneMeaning.{by_rows}
 use Rattle.turns.specs.Turns.{Means, turn_of, swapped, by_thread}
 use Rattle.turns.specs.declared.Turn.{Turn}
@@ -19,8 +21,6 @@ use Rattle.turns.specs.declared.Turn.TheVariants.{Tighten, Loosen, Hold}
 use Rattle.turns.proofs.Threads.{refused_above}
 use Rattle.turns.proofs.OneTurn.{same_meaning}
 use Rattle.claims.specs.OfTurns.{TurnRow, MeaningRow, right_above, right_below, left_above, left_below, holds, no_thread, RightThread, LeftThread, OfTurns}
-use Rattle.std.specs.Prelude.{Result, Ok, Err}
-use Rattle.words.specs.declared.Refusal.{Refusal}
 
 not_below : (n : ℕ) → T (ltb n 0) → ⊥
 not_below n t = let h = ltb→lt n 0 t in omega arith

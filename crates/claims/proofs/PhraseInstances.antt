@@ -6,10 +6,10 @@
 use mathlib.Core.List.{[], ◌∷◌}
 use mathlib.Core.Path.{refl}
 use native.Mathlib.Omega.{arith}
+use Rattle.std.specs.Prelude.{Ok, Err}
 use Rattle.words.specs.declared.Refusal.TheVariants.{Tree}
 use Rattle.phrases.specs.Grammar.{phrase, sentence, nil, cons, leaf, branch, none, more, Good, sentences}
 use Rattle.phrases.specs.Promise.{not_good, row, fills, ReadsPhrase}
-use Rattle.std.specs.Prelude.{Ok, Err}
 
 two_leaves : Good (5 ∷ 14 ∷ 6 ∷ []) (phrase (cons (sentence 7) (cons (sentence 3) nil)))
 two_leaves = branch {k = 2} refl (more (leaf refl) (more (leaf refl) none))

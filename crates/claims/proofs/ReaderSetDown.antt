@@ -11,6 +11,7 @@ use mathlib.Core.Logic.{inr, ⊎_elim}
 use native.Mathlib.Omega.{arith}
 use lib.ListN.{length, get_or, take, drop, length-drop, take-append-drop, drop_of_length-le}
 use lib.Seq.{length-take-le, drop-drop, get_or-drop}
+use Rattle.std.specs.Prelude.{Ok, Err}
 use Rattle.words.specs.declared.Refusal.{Refusal}
 use Rattle.words.specs.declared.Refusal.TheVariants.{NoStart}
 use Rattle.words.proofs.Cases.{by_order}
@@ -28,7 +29,6 @@ use Rattle.blocks.proofs.Readings.{reads_exactly, as_groups}
 use Rattle.claims.specs.OfBlocks.{ReaderFrom, ReaderSetDown}
 use Rattle.claims.specs.OfDamage.{FrontLost, CopyRefused}
 use Rattle.claims.specs.OfDamage.CopyRefused.{above_limit, no_byte, all_high}
-use Rattle.std.specs.Prelude.{Ok, Err}
 
 pub reader_from : ReaderFrom
 reader_from f s p l block k = as_groups f (from_placed s p k) (reads_exactly f s block p l k)

@@ -22,6 +22,7 @@ use native.Mathlib.Omega.{arith}
 use lib.Dec.{leb→le, le→leb, lt→ltb, ltb→lt}
 use lib.IntN.{ℤ, pos, negsuc, neg_ℤ}
 use lib.Signed.{mag, ◌≤ℤ◌, ◌<ℤ◌}
+use Rattle.std.specs.Prelude.{Ok, Err}
 use Rattle.words.specs.Answer.{Answer, gives, refused, because_at, means_read}
 use Rattle.words.specs.declared.Count.{Count}
 use Rattle.words.specs.declared.Place.{Place}
@@ -42,7 +43,6 @@ use Rattle.claims.specs.Kinds.{Kind, loop64, recursive64, unsigned32, signed64, 
 use Rattle.claims.specs.Table.{Row}
 use Rattle.claims.specs.OfNumbers.{Accepts, Refuses, Excludes, Exhausts}
 use Rattle.claims.proofs.TableRows.{row_refused, row_or_number}
-use Rattle.std.specs.Prelude.{Ok, Err}
 
 -- a width's readings are the forms of its numbers
 pub record Reading {A : Type 0} (w : Width A) (form : A → List ℕ) (OfWidth : A → Type 0) : Type 0 where

@@ -14,9 +14,11 @@ use mathlib.Core.List.{List, ◌++◌}
 use native.Mathlib.Omega.{arith}
 use borrow.Author.Tests.{le-ltb, lt-ltb}
 use lib.ListN.{length}
+use Rattle.std.specs.Prelude.{Err}
 use Rattle.words.specs.Lays.{Lays}
 use Rattle.words.specs.declared.Count.{Count}
 use Rattle.words.specs.declared.Refusal.TheVariants.{TooLong}
+use Rattle.words.specs.Answer.{Written}
 use Rattle.words.proofs.Cases.{by_order}
 use Rattle.words.proofs.LaysExactly.{lays_exactly}
 use Rattle.words.proofs.OneMeaning.{same_written}
@@ -29,8 +31,6 @@ use Rattle.claims.specs.OfNumbers.{Writes, WriteRead, ReadWrite, MoreBehind, Som
 use Rattle.claims.specs.OfLists.{WritesLists}
 use Rattle.claims.proofs.Readers.{reading_of, number_says, read_number}
 use Rattle.claims.proofs.Begun.{taken, behind, lays_back, laid_begins, refused_by}
-use Rattle.std.specs.Prelude.{Err}
-use Rattle.words.specs.Answer.{Written}
 
 -- each writer lays its form down
 pub lays_form : (k : Kind) (v : Value k) {s out : List ℕ} {at : ℕ} {r : Written} → WritesAs k v s at r out → Lays (form k v) s at r out

@@ -14,6 +14,7 @@ use mathlib.Core.Path.{refl}
 use native.Mathlib.Omega.{arith}
 use lib.Ieee.{Float, nan, fin, to_bits, fits, size, lt, le, eq}
 use lib.IntN.{pos}
+use Rattle.std.specs.Prelude.{Ok, Err}
 use Rattle.words.specs.Lays.{writing, laid}
 use Rattle.words.specs.declared.Count.{Count}
 use Rattle.words.specs.declared.Refusal.TheVariants.{Slip}
@@ -27,7 +28,6 @@ use Rattle.slips.specs.declared.Setting.TheVariants as S
 use Rattle.slips.proofs.Lies.{lies_above, lies_under}
 use Rattle.claims.specs.OfSlips.{Good}
 use Rattle.claims.proofs.SlipGood.{good_says}
-use Rattle.std.specs.Prelude.{Ok, Err}
 
 abbrev one : Float
 one = fin false 1 (pos 0)

@@ -17,6 +17,7 @@ use native.Mathlib.Omega.{arith}
 use borrow.Author.Tests.{lt-ltb, le-ltb, le-leb}
 use lib.ListN.{length, get_or, drop, length-append, drop_of_length-le}
 use lib.Seq.{get_or-drop}
+use Rattle.std.specs.Prelude.{Err}
 use Rattle.words.specs.Answer.{Answer, gives, refused, because}
 use Rattle.words.specs.declared.Refusal.{Refusal}
 use Rattle.words.specs.declared.Refusal.TheVariants.{End, Place, Slip}
@@ -30,11 +31,9 @@ use Rattle.slips.specs.Promise.{means_read_setting}
 use Rattle.slips.proofs.Spelled.{length_body, words_body, words_many, words_bits, body_words}
 use Rattle.slips.proofs.ByTests.{kind_asked, body_asked, BodyAt, by_tests}
 use Rattle.slips.proofs.OneSetting.{same_read}
-use Rattle.claims.specs.OfSlips.{Words, Good, SlipRow, past, no_byte, unknown_kind, short_body, bad}
-use Rattle.claims.specs.OfSlips.{AcceptsSlip, RefusesSlip, ExcludesSlip, ExhaustsSlip}
+use Rattle.claims.specs.OfSlips.{Words, Good, SlipRow, past, no_byte, unknown_kind, short_body, bad, AcceptsSlip, RefusesSlip, ExcludesSlip, ExhaustsSlip}
 use Rattle.claims.proofs.Begun.{byte_here}
 use Rattle.claims.proofs.SlipGood.{never_bad, bad_words}
-use Rattle.std.specs.Prelude.{Err}
 
 module _ (s : List ℕ) (at : ℕ) where
   -- the words of a body at the place

@@ -14,6 +14,7 @@ use mathlib.Core.Path.{◌≡◌, refl, ap, sym, ◌∙◌, subst}
 use native.Mathlib.Omega.{arith}
 use lib.ListN.{length, drop}
 use lib.Seq.{drop-append_seam}
+use Rattle.std.specs.Prelude.{Ok, Err}
 use Rattle.words.specs.Answer.{gives, means_written, Written}
 use Rattle.words.specs.Lays.{Lays}
 use Rattle.words.specs.declared.Count.{Count}
@@ -32,7 +33,6 @@ use Rattle.claims.specs.OfSlips.{Good, SlipRow, unknown_kind, bad, WritesSlip, S
 use Rattle.claims.proofs.Begun.{byte_here, more_there, spelled, behind, lays_back, laid_begins, refused_by}
 use Rattle.claims.proofs.SlipGood.{good_says}
 use Rattle.claims.proofs.SlipRows.{row_refused, begins_given, given_begins, refused_row}
-use Rattle.std.specs.Prelude.{Ok, Err}
 
 module _ (v : Setting) {s out : List ℕ} {at : ℕ} {r : Written} (w : WritesSetting v s at r out) where
   lays_good : Good (means_setting v) → Lays (form (means_setting v)) s at r out

@@ -9,6 +9,7 @@ use mathlib.Core.List.{List, ◌++◌}
 use mathlib.Core.Logic.{◌↔◌}
 use native.Mathlib.Omega.{arith}
 use lib.ListN.{length, drop}
+use Rattle.std.specs.Prelude.{Result, Ok, Err}
 use Rattle.words.specs.Answer.{Answer, gives}
 use Rattle.words.specs.declared.Refusal.{Refusal}
 use Rattle.words.specs.declared.Refusal.TheVariants.{NoRoom, TooLong}
@@ -19,15 +20,14 @@ use Rattle.blocks.specs.Block.{block_limit}
 use Rattle.lists.specs.Strict.{numbers}
 use Rattle.lists.specs.Promise.{ReadsStrict}
 use Rattle.lists.specs.declared.NotRead.TheVariants as L
+use Rattle.lists.specs.declared.Numbers.{Numbers}
+use Rattle.lists.specs.declared.NotRead.{NotRead}
 use Rattle.lists.proofs.StrictAnswers.{block_too_long, block_faulty, slice_full}
 use Rattle.lists.proofs.OneList.{same_list}
 use Rattle.claims.specs.OfLists.{StrictRefused, StrictRow}
 use Rattle.claims.specs.OfLists.StrictRefused.{too_long, no_room}
 use Rattle.claims.proofs.ListBack.{numbers_forms, strict_fills}
 use Rattle.claims.proofs.FirstFault.{Outcome, all, broken, outcome, first_fault}
-use Rattle.std.specs.Prelude.{Result, Ok, Err}
-use Rattle.lists.specs.declared.Numbers.{Numbers}
-use Rattle.lists.specs.declared.NotRead.{NotRead}
 
 module _ (s old : List ℕ) where
   -- where its row holds, an answer with its slice is strict reading's

@@ -16,9 +16,9 @@ use Rattle.words.specs.declared.Refusal.{Refusal}
 use Rattle.groups.specs.Width.{Width}
 use Rattle.uleb128.specs.Unsigned as unsigned
 use Rattle.uleb128.specs.Promise.{ReadsU64, ReadsU32, WritesU64, WritesU32, LengthU64, LengthU32}
-use Rattle.uleb128_rec.specs.Promise.{ReadsU64Rec, WritesU64Rec}
 use Rattle.sleb128.specs.Signed as signed
 use Rattle.sleb128.specs.Promise.{ReadsI64, WritesI64, LengthI64}
+use Rattle.uleb128_rec.specs.Promise.{ReadsU64Rec, WritesU64Rec}
 
 pub data Kind : Type 0 where
   loop64 recursive64 unsigned32 signed64 : Kind

@@ -15,16 +15,16 @@ use Rattle.words.specs.Lays.{LaysExactly}
 use Rattle.words.specs.declared.Count.{Count}
 use Rattle.words.specs.declared.Refusal.TheVariants.{TooLong, End, NoRoom}
 use Rattle.words.specs.declared.Refusal.{Refusal}
+use Rattle.words.specs.Answer.{Written}
 use Rattle.groups.specs.Group.{Bytes, High, Group}
 use Rattle.uleb128.specs.Unsigned.{u64}
 use Rattle.blocks.specs.Block.{block_limit}
 use Rattle.lists.specs.Lists.{forms, list_limit}
 use Rattle.lists.specs.Promise.{WritesList, ReadsStrict}
 use Rattle.lists.specs.declared.NotRead.TheVariants as L
-use Rattle.claims.specs.Table.{GapRow}
 use Rattle.lists.specs.declared.Numbers.{Numbers}
 use Rattle.lists.specs.declared.NotRead.{NotRead}
-use Rattle.words.specs.Answer.{Written}
+use Rattle.claims.specs.Table.{GapRow}
 
 abbrev pub Of64Bits : List ℕ → Type 0
 Of64Bits [] = Unit {0}

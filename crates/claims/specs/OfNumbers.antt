@@ -19,18 +19,18 @@ use Rattle.words.specs.declared.Count.{Count}
 use Rattle.words.specs.declared.Place.{Place}
 use Rattle.words.specs.declared.Refusal.{Refusal}
 use Rattle.words.specs.declared.Refusal.TheVariants.{End}
+use Rattle.bits.specs.Promise.{TakesLow7Bits, IsHigh8BitSet, SetsHigh8Bit}
 use Rattle.groups.specs.Begins.{Begins}
 use Rattle.groups.specs.Form.{growth}
 use Rattle.groups.specs.Group.{Bytes, Group, digits}
-use Rattle.bits.specs.Promise.{TakesLow7Bits, IsHigh8BitSet, SetsHigh8Bit}
 use Rattle.groups.specs.Promise.{Walks, Stores, SpelledLength}
 use Rattle.groups.specs.declared.Value.{Value as ByKind}
 use Rattle.groups.specs.Width.{read, is_too_many}
 use Rattle.groups.specs.declared.Walked.{Walked}
 use Rattle.uleb128.specs.Unsigned as unsigned
 use Rattle.uleb128.specs.Promise.{ReadsU64, WritesU64}
-use Rattle.uleb128_rec.specs.Promise.{ReadsU64Rec, WritesU64Rec}
 use Rattle.sleb128.specs.Signed as signed
+use Rattle.uleb128_rec.specs.Promise.{ReadsU64Rec, WritesU64Rec}
 use Rattle.claims.specs.Kinds.{Kind, loop64, recursive64, unsigned32, signed64, Value, Reply, number, refuse, ReadsAs, width, form, OfWidth, WritesAs, TakesAs}
 use Rattle.claims.specs.Table.{Row}
 use Rattle.claims.specs.Source.{spec_parse, spec_serialize_helper}

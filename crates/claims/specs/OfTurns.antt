@@ -8,10 +8,10 @@
 --   OfTurns              all of it
 use Rattle.std.specs.Prelude.{ℕ, ◌≤◌, ◌<◌, ◌≡◌, ◌↔◌, ℤ, pos, ◌<ℤ◌, Ok, Err, Result}
 use Rattle.words.specs.declared.Refusal.TheVariants.{Thread}
+use Rattle.words.specs.declared.Refusal.{Refusal}
 use Rattle.turns.specs.Turns.{Means, swapped}
 use Rattle.turns.specs.declared.Turn.{Turn}
 use Rattle.turns.specs.declared.Turn.TheVariants.{Tighten, Loosen, Hold}
-use Rattle.words.specs.declared.Refusal.{Refusal}
 
 -- What a turn means under a thread code: 0 is right, 1 is left, where the two names change places. Zero is Hold for both. Any other code is
 -- refused as Thread, whatever the turn.

@@ -9,6 +9,7 @@ use mathlib.Core.List.{List, [], ◌∷◌}
 use native.Mathlib.Omega.{arith}
 use lib.ListN.{length, take, drop, length-drop}
 use lib.Seq.{drop-drop, take_all}
+use Rattle.std.specs.Prelude.{Ok, Err, Option, Some, None}
 use Rattle.words.specs.declared.Refusal.TheVariants as Why
 use Rattle.blocks.specs.Block.{block_limit}
 use Rattle.entries.specs.Standing.{EndsAt, NextMark}
@@ -21,7 +22,6 @@ use Rattle.entries.proofs.NextMarks.{mark_inside, next_within, next_is, next_non
 use Rattle.entries.proofs.Standing.{entry_there, entry_end}
 use Rattle.entries.proofs.SaysGroups.{one_said, said_alone, said_within}
 use Rattle.entries.proofs.NoMarkInside.{fields_refuse, no_mark_said, part_behind}
-use Rattle.std.specs.Prelude.{Ok, Err, Option, Some, None}
 
 take_none : (k : ℕ) → ◌≡◌ {A = List ℕ} (take k []) []
 take_none zero = refl

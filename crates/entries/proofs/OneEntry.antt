@@ -17,6 +17,7 @@ use mathlib.Core.Path.{◌≡◌, refl, ap, sym, ◌∙◌, subst}
 use native.Mathlib.Omega.{arith}
 use lib.ListN.{length, take, drop}
 use lib.Seq.{get_or-drop}
+use Rattle.std.specs.Prelude.{Result, Ok, Err}
 use Rattle.words.specs.Answer.{Answer, gives, refused, because, by, by_at}
 use Rattle.words.specs.declared.Refusal.{Refusal}
 use Rattle.words.specs.declared.Refusal.TheVariants as Why
@@ -35,7 +36,6 @@ use Rattle.entries.specs.declared.ReadEntry.TheVariants.{Good, Bad}
 use Rattle.entries.proofs.NextMarks.{next_within, next_is, next_none, one_next, some_next}
 use Rattle.entries.proofs.Standing.{one_entry, some_entry}
 use Rattle.entries.proofs.SaysGroups.{one_verdict, some_verdict}
-use Rattle.std.specs.Prelude.{Result, Ok, Err}
 
 bytes_take : (n : ℕ) (l : List ℕ) → Bytes l → Bytes (take n l)
 bytes_take zero l h i = omega arith

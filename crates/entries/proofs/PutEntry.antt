@@ -18,14 +18,15 @@ use lib.ListN.{length, set, length-append}
 use lib.Seq.{sets}
 use lib.Signed.{mag}
 use Rattle.words.specs.Inner.{Puts}
-use Rattle.words.proofs.LaysInParts.{Laying, part_laid, rest_fits}
 use Rattle.words.specs.Lays.{Lays}
+use Rattle.words.specs.Answer.{Written}
+use Rattle.words.proofs.LaysInParts.{Laying, part_laid, rest_fits}
 use Rattle.bits.specs.Macros.{take_low_7_bits_lem}
 use Rattle.groups.specs.Form.{spelling}
 use Rattle.groups.specs.Promise.{Stores}
-use Rattle.groups.proofs.Spelling.{spelled_short}
 use Rattle.groups.specs.declared.Value.{Value}
 use Rattle.groups.specs.declared.Value.TheVariants.{Unsigned, Signed}
+use Rattle.groups.proofs.Spelling.{spelled_short}
 use Rattle.uleb128.specs.Unsigned.{form as unsignedForm}
 use Rattle.uleb128.proofs.Forms.{form_small, form_short}
 use Rattle.sleb128.specs.Signed.{form as signedForm}
@@ -36,7 +37,6 @@ use Rattle.entries.specs.Standing.{mark}
 use Rattle.entries.specs.Saying.{form_of, forms_of}
 use Rattle.entries.specs.Promise.{entry_form}
 use Rattle.entries.specs.declared.Entry.{Entry}
-use Rattle.words.specs.Answer.{Written}
 
 pub form_spelling : (n : Value) → form_of (means_value n) ≡ spelling n
 unfolding unsignedForm signedForm

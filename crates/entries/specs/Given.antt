@@ -7,11 +7,11 @@
 --   EntriesFrom s p l    l is the entries of s whose marks stand at p or later, in order, and no other
 use Rattle.std.specs.Prelude.{ℕ, suc, ◌+◌, ◌≤◌, ◌≡◌, List, [], ◌∷◌, ◌⊎◌, ◌↔◌, Result, Err}
 use Rattle.words.specs.declared.Refusal.TheVariants.{NoStart}
+use Rattle.words.specs.declared.Refusal.{Refusal}
 use Rattle.entries.specs.Standing.{NextMark}
 use Rattle.entries.specs.Saying.{Verdict}
 use Rattle.entries.specs.Promise.{EntryIs, ended, means_read_entry, ReadsEntry}
 use Rattle.entries.specs.declared.ReadEntry.{ReadEntry}
-use Rattle.words.specs.declared.Refusal.{Refusal}
 
 pub data EntriesGiven (s : List ℕ) : ℕ → List (ℕ × ℕ × Verdict) → Type 0 where
   no_more : {p : ℕ} → ReadsEntry s p (Err NoStart) → EntriesGiven s p []

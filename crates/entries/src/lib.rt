@@ -12,7 +12,7 @@ use words::{Place, Refusal};
 pub use writing::write_entry;
 
 // What a good entry says.
-#[derive(Clone, Copy)]
+#[derive(Clone, Copy, Debug, PartialEq, Eq)]
 pub struct Entry {
     pub segment: u64,
     pub sentence: u64,
@@ -20,7 +20,7 @@ pub struct Entry {
 }
 
 // The entry that was found: a good one, or 10 for a bad one, each with the place where it ends.
-#[derive(Clone, Copy)]
+#[derive(Clone, Copy, Debug, PartialEq, Eq)]
 pub enum ReadEntry {
     Good(Entry, Place),
     Bad(Refusal, Place),

@@ -20,13 +20,7 @@ use words::{Count, Place, Refusal, has_room};
 fn entry_length(entry: Entry) -> Count
     ensures { Takes (entry_form entry) result }
 {
-    let segment = length_u64(entry.segment);
-    let sentence = length_u64(entry.sentence);
-    let turn = length_i64(entry.turn);
-    let first = 2 + segment.0;
-    let second = first + sentence.0;
-    let all = second + turn.0;
-    Count(all)
+    Count(2 + length_u64(entry.segment).0 + length_u64(entry.sentence).0 + length_i64(entry.turn).0)
 }
 
 // These store bytes where there is room for them, and answer the place behind them.
@@ -34,9 +28,8 @@ fn put_mark(buffer: &mut [u8], at: usize) -> usize
     requires { at + 2 ≤ length buffer.old }
     ensures { Puts mark buffer.old at result buffer.new }
 {
-    let next = at + 1;
     buffer[at] = 128;
-    buffer[next] = 0;
+    buffer[at + 1] = 0;
     at + 2
 }
 
@@ -54,8 +47,7 @@ fn put_u64(v: u64, buffer: &mut [u8], at: usize) -> usize
     ensures { Puts (unsignedForm v) buffer.old at result buffer.new }
 {
     if v < ONE_BYTE {
-        let bits = take_low_7_bits(v);
-        buffer[at] = bits;
+        buffer[at] = take_low_7_bits(v);
         return at + 1;
     }
     put(Value::Unsigned(v), buffer, at)
@@ -75,16 +67,13 @@ fn put_entry(entry: Entry, buffer: &mut [u8], at: usize) -> usize
 pub fn write_entry(entry: Entry, buffer: &mut [u8], place: Place) -> Result<Count, Refusal>
     ensures { WritesEntry entry buffer.old place.0 result buffer.new }
 {
-    let absurd = is_absurd(entry.turn);
-    let all = entry_length(entry);
-    let room = has_room(buffer.len(), place, all);
-    if absurd {
+    if is_absurd(entry.turn) {
         return Err(Refusal::Entry);
     }
-    if !room {
+    let all = entry_length(entry);
+    if !has_room(buffer.len(), place, all) {
         return Err(Refusal::NoRoom);
     }
-    let at = place.0;
-    put_entry(entry, buffer, at);
+    put_entry(entry, buffer, place.0);
     Ok(all)
 }

@@ -100,10 +100,10 @@ module _ (v m n : ℕ) (above : v < 2 ^ m) (below : 2 ^ m ≤ 2 * v + 1) (eighth
       let up : 2 ^ m ≤ 2 ^ (7 * (n + 1)) = pow_mono (omega arith) in
       unsigned_short v n (rw (in_bits (n + 1)) (omega arith))
 
-pub by_bits : (v : ℕ) → v < 2 ^ 64 → Nearly v ((72 - count_leading_zeros 64 v) / 2 ^ 3)
+pub by_bits : (v : ℕ) → v < 2 ^ 64 → Nearly v ((72 - count_leading_zeros 64 v) / 8)
 by_bits v h =
     let l = leading_length 64 v h in
-    let n = (72 - count_leading_zeros 64 v) / 2 ^ 3 in
+    let n = (72 - count_leading_zeros 64 v) / 8 in
     let e : n ≡ (l.0 + 8) / 8 = omega (arith, l.1) in
     record {
       some = omega (arith, l.1);

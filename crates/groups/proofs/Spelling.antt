@@ -31,12 +31,12 @@ use borrow.Author.Tests.{lt-ltb, le-ltb}
 use lib.ListN.{length, get_or}
 use Rattle.words.specs.Lays.{Lays, Takes}
 use Rattle.words.specs.declared.Count.{Count}
+use Rattle.words.specs.Answer.{Written}
 use Rattle.words.proofs.Cases.{by_order}
 use Rattle.groups.specs.Group.{run, Group, one, more, digits}
 use Rattle.groups.specs.Form.{say, spellings, spell}
 use Rattle.groups.specs.Inner.{groups}
 use Rattle.groups.proofs.Run.{run_low, run_high, pow_up}
-use Rattle.words.specs.Answer.{Written}
 
 pub say_below : (below : Bool) (d : ℕ) → d < 128 → say below d < 128
 say_below true d h = omega arith
@@ -116,7 +116,7 @@ some_bytes (byte p r) = omega arith
 pub takes_some : (below : Bool) (small m : ℕ) {r : Count} → 0 < small → Takes (spell below small m) r → 0 < r.0
 takes_some below small m h p = omega (arith, p.is, some_bytes (spelled below small h m))
 
-grown : (below : Bool) (n m : ℕ) → 0 < n → groups below (suc n) m ≡ (128 + say below (m % 128)) ∷ groups below n (m / 128)
+pub grown : (below : Bool) (n m : ℕ) → 0 < n → groups below (suc n) m ≡ (128 + say below (m % 128)) ∷ groups below n (m / 128)
 unfolding groups
 grown below zero m h = absurd (omega arith)
 grown below (suc n) m h = refl

@@ -10,14 +10,14 @@ use words::Count;
 pub use writing::{spelled_length, store};
 
 // A number and its kind, which decide the bytes that spell it.
-#[derive(Clone, Copy)]
+#[derive(Clone, Copy, Debug, PartialEq, Eq)]
 pub enum Value {
     Unsigned(u64),
     Signed(i64),
 }
 
 // How the bytes from a start go.
-#[derive(Clone, Copy)]
+#[derive(Clone, Copy, Debug, PartialEq, Eq)]
 pub enum Walked {
     // The start is past the end of the bytes.
     Past,

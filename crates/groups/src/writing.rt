@@ -12,7 +12,7 @@ use bits::{set_high_8_bit, take_low_7_bits};
 use words::{Count, Place, Refusal, has_room};
 
 // The values at which a 64-bit number grows by a byte.
-const GROWTH: [u64; 9] = [
+static GROWTH: [u64; 9] = [
     128,
     16384,
     2097152,
@@ -24,12 +24,6 @@ const GROWTH: [u64; 9] = [
     9223372036854775808,
 ];
 
-fn below_zero(v: i64) -> bool
-    ensures { result ≡ is_below v }
-{
-    v < 0
-}
-
 // v, or -v-1 below zero.
 fn magnitude(v: i64) -> u64
     ensures { result ≡ mag v }
@@ -37,34 +31,13 @@ fn magnitude(v: i64) -> u64
     if v < 0 { (!v) as u64 } else { v as u64 }
 }
 
-// The growth value at a place of the array. By cases, of which the compiler makes a table: an array that is asked at a place known only
-// at run time is laid down anew each time.
-fn growth_at(i: usize) -> u64
-    requires { i < 9 }
-    ensures { result ≡ get_or growth i 0 }
-{
-    match i {
-        0 => GROWTH[0],
-        1 => GROWTH[1],
-        2 => GROWTH[2],
-        3 => GROWTH[3],
-        4 => GROWTH[4],
-        5 => GROWTH[5],
-        6 => GROWTH[6],
-        7 => GROWTH[7],
-        8 => GROWTH[8],
-        _ => 0,
-    }
-}
-
 // How many bytes an unsigned number takes, looked up. With n for the eighths of its bits and one, it takes n bytes or one more, and the
 // growth value between the two decides.
 fn length_unsigned(v: u64) -> Count
     ensures { Takes (spell false 128 v) result }
 {
-    let zeros = u64::leading_zeros(v) as usize;
-    let n = (72 - zeros) >> 3;
-    let growth = growth_at(n - 1);
+    let n = (72 - v.leading_zeros() as usize) / 8;
+    let growth = GROWTH[n - 1];
     if growth <= v { Count(n + 1) } else { Count(n) }
 }
 
@@ -73,9 +46,7 @@ fn length_unsigned(v: u64) -> Count
 fn length_signed(v: i64) -> Count
     ensures { Takes (spell (is_below v) 64 (mag v)) result }
 {
-    let m = magnitude(v);
-    let twice = m * 2;
-    length_unsigned(twice)
+    length_unsigned(magnitude(v) * 2)
 }
 
 // How many bytes spell the number: 1 to 10.
@@ -101,27 +72,16 @@ fn lay(m: u64, below: bool, count: Count, buffer: &mut [u8], place: Place) -> Re
     requires { 0 < count.0 }
     ensures { Lays (groups below count.0 m) buffer.old place.0 result buffer.new }
 {
-    let at = place.0;
-    let n = count.0;
-    let room = has_room(buffer.len(), place, count);
-    if !room {
+    if !has_room(buffer.len(), place, count) {
         return Err(Refusal::NoRoom);
     }
-    let more = n - 1;
+    let last = place.0 + (count.0 - 1);
     let mut rest = m;
-    let mut i = 0;
-    while i < more {
-        let bits = take_low_7_bits(rest);
-        let byte = set_high_8_bit(said(bits, below));
-        let to = at + i;
-        buffer[to] = byte;
-        rest = rest / 128;
-        i += 1;
+    for byte in &mut buffer[place.0..last] {
+        *byte = set_high_8_bit(said(take_low_7_bits(rest), below));
+        rest /= 128;
     }
-    let bits = take_low_7_bits(rest);
-    let byte = said(bits, below);
-    let to = at + more;
-    buffer[to] = byte;
+    buffer[last] = said(take_low_7_bits(rest), below);
     Ok(count)
 }
 
@@ -131,6 +91,6 @@ pub fn store(number: Value, buffer: &mut [u8], place: Place) -> Result<Count, Re
 {
     match number {
         Value::Unsigned(v) => lay(v, false, length_unsigned(v), buffer, place),
-        Value::Signed(v) => lay(magnitude(v), below_zero(v), length_signed(v), buffer, place),
+        Value::Signed(v) => lay(magnitude(v), v < 0, length_signed(v), buffer, place),
     }
 }

@@ -7,13 +7,13 @@
 --   line_said x     the line of what a step says
 --   SaysRow s p r   r is the line of what a step from the place p by the unsigned rule says
 use Rattle.std.specs.Prelude.{ℕ, List, ◌++◌, ◌≡◌, Option, Some, None}
+use Rattle.words.specs.declared.Count.{Count}
 use Rattle.texts.specs.Texts.{ascii}
 use Rattle.blocks.specs.Block.{unsigned, signed, Stepped, number, gap, tail, finished, refuses, stepping}
 use Rattle.blocks.specs.declared.Rule.TheVariants.{Unsigned}
 use Rattle.listing.specs.Listing.{fault}
 use Rattle.listing.specs.declared.rows.What.{What}
 use Rattle.listing.specs.declared.rows.What.TheVariants as W
-use Rattle.words.specs.declared.Count.{Count}
 
 abbrev pub word_of : What → List ℕ
 word_of W.Number = ascii "number"

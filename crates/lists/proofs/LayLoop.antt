@@ -17,10 +17,12 @@ use native.Mathlib.Nat.{mod-eq_of_lt}
 use native.Mathlib.Omega.{arith}
 use borrow.Author.Tests.{lt-ltb, le-ltb, le-leb}
 use lib.ListN.{length, get_or, drop, set, length-append}
+use Rattle.std.specs.Prelude.{Ok, Err}
 use Rattle.words.specs.Inner.{Puts}
 use Rattle.words.specs.Lays.{Lays}
 use Rattle.words.specs.Promise.{HasRoom}
 use Rattle.words.specs.declared.Refusal.TheVariants.{TooLong}
+use Rattle.words.specs.Answer.{Written}
 use Rattle.words.proofs.Cases.{by_order}
 use Rattle.words.proofs.Lays.{room_there}
 use Rattle.words.proofs.LaysInParts.{Laying, part_laid, all_laid, rest_fits, puts_lays}
@@ -31,8 +33,6 @@ use Rattle.uleb128.proofs.Forms.{form_small, form_large, form_short, form_long}
 use Rattle.lists.specs.Lists.{forms, list_limit}
 use Rattle.lists.specs.Promise.{WritesList}
 use Rattle.lists.proofs.TotalLoop.{forms_next, forms_end, length_next}
-use Rattle.std.specs.Prelude.{Ok, Err}
-use Rattle.words.specs.Answer.{Written}
 
 -- a number, byte by byte
 module _ (v rest : ℕ) {s : List ℕ} {at : ℕ} {out : List ℕ} {to : ℕ} (g : Laying (form v) s at out to (form rest)) where

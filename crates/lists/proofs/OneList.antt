@@ -3,12 +3,12 @@
 --   same_list   answers that mean the same are the same
 use Prim.Native.Nat.{ℕ}
 use mathlib.Core.Path.{◌≡◌, refl}
+use Rattle.std.specs.Prelude.{Result, Ok, Err}
 use Rattle.words.specs.Answer.{Answer, gives, refused, by, by_at}
 use Rattle.words.proofs.OneNumber.{refusal_of, refusal_back}
 use Rattle.words.proofs.OneMeaning.{same_by}
 use Rattle.lists.specs.Promise.{means_read_list}
 use Rattle.lists.specs.declared.NotRead.TheVariants as L
-use Rattle.std.specs.Prelude.{Result, Ok, Err}
 use Rattle.lists.specs.declared.Numbers.{Numbers}
 use Rattle.lists.specs.declared.NotRead.{NotRead}
 

@@ -17,6 +17,7 @@ use borrow.Author.Tests.{lt-ltb, le-ltb, le-leb, lt-leb}
 use lib.ListN.{length, drop}
 use lib.Dec.{leb, ltb}
 use lib.Seq.{sets, sets-eq}
+use Rattle.std.specs.Prelude.{Result, Ok, Err}
 use Rattle.words.specs.Answer.{pick, Answer, gives, refused, by, because_at, Why}
 use Rattle.words.specs.declared.Place.{Place}
 use Rattle.words.specs.declared.Refusal.{Refusal}
@@ -30,9 +31,8 @@ use Rattle.lists.specs.Inner.{many}
 use Rattle.lists.specs.Promise.{means_read_list, ReadsStrict}
 use Rattle.lists.specs.declared.Numbers.{Numbers}
 use Rattle.lists.specs.declared.NotRead.TheVariants.{Faulty, Refused}
-use Rattle.lists.proofs.NumbersLeft.{numbers_left}
-use Rattle.std.specs.Prelude.{Result, Ok, Err}
 use Rattle.lists.specs.declared.NotRead.{NotRead}
+use Rattle.lists.proofs.NumbersLeft.{numbers_left}
 
 -- as many numbers as are counted, or the fault that is found
 numbers_many : (a : Answer (List ℕ)) {n : ℕ} → gives n ≡ many a → (ns : List ℕ) × (a ≡ gives ns) × (length ns ≡ n)

@@ -13,11 +13,11 @@ use words::{Fault, Refusal};
 pub use writing::{LIST_LIMIT, write_list};
 
 // A count of numbers: neither a place nor a count of bytes.
-#[derive(Clone, Copy)]
+#[derive(Clone, Copy, Debug, PartialEq, Eq)]
 pub struct Numbers(pub usize);
 
 // Why strict reading reads nothing: the block's first fault, which is 1, 2 or 3; or else 7 or 5, which no byte decides.
-#[derive(Clone, Copy)]
+#[derive(Clone, Copy, Debug, PartialEq, Eq)]
 pub enum NotRead {
     Faulty(Fault),
     Refused(Refusal),

@@ -48,10 +48,8 @@ fn measure(block: &[u8]) -> Result<usize, Fault>
     requires { length block.now ≤ block_limit }
     ensures { Scans block.now result }
 {
-    let sound = clean(block);
-    if sound {
-        let count = low_bytes(block, block.len());
-        return Ok(count);
+    if clean(block) {
+        return Ok(low_bytes(block, block.len()));
     }
     scan(block)
 }

@@ -21,13 +21,8 @@ fn total_length(numbers: &[u64]) -> Count
     ensures { Takes (forms numbers.now) result }
 {
     let mut total: usize = 0;
-    let mut i: usize = 0;
-    while i < numbers.len() {
-        let v = numbers[i];
-        let count = spelled_length(Value::Unsigned(v));
-        let n = count.0;
-        total += n;
-        i += 1;
+    for &v in numbers {
+        total += spelled_length(Value::Unsigned(v)).0;
     }
     Count(total)
 }
@@ -38,12 +33,7 @@ fn list_fits(numbers: &[u64], size: usize, place: Place) -> bool
     ensures { HasRoom size place.0 (length (forms numbers.now)) result }
 {
     let most = 10 * numbers.len();
-    let ample = has_room(size, place, Count(most));
-    if ample {
-        return true;
-    }
-    let total = total_length(numbers);
-    has_room(size, place, total)
+    has_room(size, place, Count(most)) || has_room(size, place, total_length(numbers))
 }
 
 // Lays a number's form down where there is room for it, and answers the place behind it. What is left of the number tells where its form
@@ -53,39 +43,30 @@ fn put(v: u64, buffer: &mut [u8], at: usize) -> usize
     ensures { Puts (form v) buffer.old at result buffer.new }
 {
     let mut rest = v;
-    let mut i: usize = 0;
-    while i < 9 {
-        let bits = take_low_7_bits(rest);
+    for i in 0..9 {
         let to = at + i;
         if rest < ONE_BYTE {
-            buffer[to] = bits;
+            buffer[to] = take_low_7_bits(rest);
             return to + 1;
         }
-        let byte = set_high_8_bit(bits);
-        buffer[to] = byte;
-        rest = rest / 128;
-        i += 1;
+        buffer[to] = set_high_8_bit(take_low_7_bits(rest));
+        rest /= 128;
     }
-    let bits = take_low_7_bits(rest);
-    let to = at + i;
-    buffer[to] = bits;
-    to + 1
+    let last = at + 9;
+    buffer[last] = take_low_7_bits(rest);
+    last + 1
 }
 
-// Lays the numbers' forms down at a place where there is room for them.
-fn lay(numbers: &[u64], buffer: &mut [u8], at: usize) -> Result<Count, Refusal>
+// Lays the numbers' forms down at a place where there is room for them, and answers the count of bytes.
+fn lay(numbers: &[u64], buffer: &mut [u8], at: usize) -> Count
     requires { at + length (forms numbers.now) ≤ length buffer.old }
-    ensures { Lays (forms numbers.now) buffer.old at result buffer.new }
+    ensures { Lays (forms numbers.now) buffer.old at (Ok result) buffer.new }
 {
     let mut to = at;
-    let mut i: usize = 0;
-    while i < numbers.len() {
-        let v = numbers[i];
+    for &v in numbers {
         to = put(v, buffer, to);
-        i += 1;
     }
-    let n = to - at;
-    Ok(Count(n))
+    Count(to - at)
 }
 
 // Lays the numbers' forms down one after another at the place and answers the count of bytes: else 7 or 5, and no byte is changed.
@@ -95,10 +76,8 @@ pub fn write_list(numbers: &[u64], buffer: &mut [u8], place: Place) -> Result<Co
     if LIST_LIMIT < numbers.len() {
         return Err(Refusal::TooLong);
     }
-    let room = list_fits(numbers, buffer.len(), place);
-    if !room {
+    if !list_fits(numbers, buffer.len(), place) {
         return Err(Refusal::NoRoom);
     }
-    let at = place.0;
-    lay(numbers, buffer, at)
+    Ok(lay(numbers, buffer, place.0))
 }

@@ -10,6 +10,7 @@ use mathlib.Core.Logic.{⊎_elim}
 use mathlib.Core.Path.{◌≡◌, refl, ap}
 use native.Mathlib.Omega.{arith}
 use lib.ListN.{length, drop}
+use Rattle.std.specs.Prelude.{Result, Ok, Err}
 use Rattle.words.specs.Answer.{Answer, gives, refused, because}
 use Rattle.words.specs.declared.Refusal.{Refusal}
 use Rattle.words.specs.declared.Refusal.TheVariants.{TooLong, Tree, NoRoom}
@@ -17,12 +18,11 @@ use Rattle.words.proofs.Cases.{by_order}
 use Rattle.words.proofs.OneMeaning.{same_by, back}
 use Rattle.words.proofs.OneNumber.{refusal_back}
 use Rattle.lists.specs.Lists.{list_limit}
+use Rattle.lists.specs.declared.Numbers.{Numbers}
 use Rattle.phrases.specs.Grammar.{Phrase, Good, sentences}
 use Rattle.phrases.specs.Promise.{PhraseRow, too_long, not_good, no_room, Phrased, row, fills, means_read_phrase, ReadsPhrase}
 use Rattle.phrases.proofs.OneReading.{one_item}
 use Rattle.phrases.proofs.Decided.{good_or_not}
-use Rattle.std.specs.Prelude.{Result, Ok, Err}
-use Rattle.lists.specs.declared.Numbers.{Numbers}
 
 module _ {s : List ℕ} {room : ℕ} where
   pub one_row : {a b : Refusal} → PhraseRow s room a → PhraseRow s room b → a ≡ b

@@ -6,6 +6,7 @@ use mathlib.Core.Path.{◌≡◌, refl, ap, ◌∙◌}
 use mathlib.Core.List.{List, []}
 use native.Mathlib.Omega.{arith}
 use lib.ListN.{length, length-drop, drop_of_length-le}
+use Rattle.std.specs.Prelude.{Ok, Err}
 use Rattle.words.specs.declared.Refusal.TheVariants as Why
 use Rattle.lists.specs.Lists.{list_limit}
 use Rattle.phrases.specs.Grammar.{Phrase, nil, cons, none, more, nesting, Good}
@@ -13,7 +14,6 @@ use Rattle.phrases.specs.Inner.{SomeAhead, Passes, halves, Fills}
 use Rattle.phrases.specs.Promise.{too_long, not_good, no_room, row, fills, ReadsPhrase}
 use Rattle.phrases.proofs.OneReading.{one_items}
 use Rattle.phrases.proofs.Halves.{good_halves}
-use Rattle.std.specs.Prelude.{Ok, Err}
 
 -- where one item ends with the list, the list is good
 whole : {s : List ℕ} {to : ℕ} → Passes (SomeAhead nesting 1) s 0 to → to ≤ length s → length s ≤ to → (p : Phrase) × Good s p

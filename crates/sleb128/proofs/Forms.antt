@@ -12,13 +12,13 @@ use mir.ValLaws.{to_z-of_z}
 use lib.IntN.{ℤ}
 use lib.Signed.{mag}
 use Rattle.words.specs.declared.Count.{Count}
+use Rattle.words.specs.Answer.{Written}
 use Rattle.groups.specs.Form.{below}
 use Rattle.groups.specs.Promise.{SpelledLength, Stores}
 use Rattle.groups.specs.declared.Value.TheVariants.{Signed}
 use Rattle.groups.proofs.Spelling.{Spelled, spelled}
 use Rattle.sleb128.specs.Signed.{form}
 use Rattle.sleb128.specs.Promise.{LengthI64, WritesI64}
-use Rattle.words.specs.Answer.{Written}
 
 pub form_spelled : (v : ℤ) → Spelled (below v) 64 (mag v) (form v)
 unfolding form

@@ -2,7 +2,6 @@
 // complemented. The last byte's bit of weight 64 tells the sign.
 ghost use Rattle.std.specs.Prelude.{◌≡◌, [], ◌∷◌, ◌^◌, ◌≤◌, ◌<◌, ltb};
 ghost use Rattle.words.specs.Answer.{both, means_read};
-ghost use Rattle.groups.specs.Inner.{OneByte};
 ghost use Rattle.groups.specs.Width.{Due};
 ghost use Rattle.sleb128.specs.Signed.{signed as Signed-of, i64};
 ghost use Rattle.sleb128.specs.Inner.{saying, closing, Closes};
@@ -11,18 +10,6 @@ ghost use Rattle.sleb128.specs.Promise.{ReadsI64};
 use bits::is_high_8_bit_set;
 use groups::{Walked, walk};
 use words::{Count, Fault, Place, Refusal};
-
-// Whether the byte at the place is a group of its own: one below 128. Most numbers take one byte, so a reader asks this first.
-fn one_byte(bytes: &[u8], at: usize) -> bool
-    ensures { OneByte bytes.now at result }
-{
-    if bytes.len() <= at {
-        return false;
-    }
-    let b = bytes[at];
-    let more = is_high_8_bit_set(b);
-    !more
-}
 
 // m, or -m-1 below zero.
 fn signed(m: u64, below: bool) -> i64
@@ -58,10 +45,7 @@ fn said(v: u64, up: u64, below: bool) -> u64
 fn too_large(high: usize, bits: u64) -> bool
     ensures { result ≡ both (ltb 8 high) (ltb 0 bits) }
 {
-    if high < 9 {
-        return false;
-    }
-    0 < bits
+    8 < high && 0 < bits
 }
 
 // The number of a group whose high bytes say low and whose last byte says bits: below zero, both are complements. Where it is
@@ -77,18 +61,15 @@ fn closed(
     requires { Closes low weight high bits }
     ensures { Due (closing below low weight high bits place.0) (means_read result) }
 {
-    let large = too_large(high, bits);
-    if large {
+    if too_large(high, bits) {
         return Err(Fault(Refusal::Overflow, place));
     }
-    let part = weight * bits;
-    let m = low + part;
+    let m = low + weight * bits;
     let twice = m * 2;
     if twice < weight {
         return Err(Fault(Refusal::NotShortest, place));
     }
-    let n = high + 1;
-    Ok((signed(m, below), Count(n)))
+    Ok((signed(m, below), Count(high + 1)))
 }
 
 // The number whose shortest form stands at the start, with its count of bytes; else 4, 1, 2 or 3, each with the place of the byte
@@ -97,18 +78,13 @@ pub fn read_i64(bytes: &[u8], start: Place) -> Result<(i64, Count), Fault>
     ensures { ReadsI64 bytes.now start.0 result }
 {
     let at = start.0;
-    let small = one_byte(bytes, at);
-    if small {
-        let b = bytes[at];
-        return Ok((alone(b), Count(1)));
+    if at < bytes.len() && !is_high_8_bit_set(bytes[at]) {
+        return Ok((alone(bytes[at]), Count(1)));
     }
     match walk(bytes, start) {
         Walked::Past => Err(Fault(Refusal::Place, start)),
         Walked::Open(_) => Err(Fault(Refusal::End, Place(bytes.len()))),
-        Walked::Long => {
-            let tenth = at + 9;
-            Err(Fault(Refusal::Overflow, Place(tenth)))
-        }
+        Walked::Long => Err(Fault(Refusal::Overflow, Place(at + 9))),
         Walked::Closed {
             sum,
             weight,

@@ -6,6 +6,7 @@ use Prim.Native.Nat.{ℕ, ◌+◌}
 use mathlib.Core.Bool.{true, false}
 use mathlib.Core.List.{List, [], ◌∷◌}
 use mathlib.Core.Path.{◌≡◌, sym, ◌∙◌}
+use Rattle.std.specs.Prelude.{Ok, Err}
 use Rattle.words.specs.declared.Count.{Count}
 use Rattle.words.specs.declared.Refusal.TheVariants as Why
 use Rattle.slips.specs.Good.{Measure, good_word, good}
@@ -14,7 +15,6 @@ use Rattle.slips.specs.Promise.{means_setting, F32}
 use Rattle.slips.specs.Inner.{Judges}
 use Rattle.slips.specs.declared.Setting.{Setting}
 use Rattle.slips.proofs.GoodRange.{alone}
-use Rattle.std.specs.Prelude.{Ok, Err}
 
 module _ {k : ℕ} {ms : List Measure} {ws : List ℕ} where
   pub judged_good : {v : Setting} (n : Count) → good ms ws ≡ true → means_setting v ≡ (k, ws) → F32 v → n.0 ≡ 1 + body_length ms

@@ -10,16 +10,16 @@ use native.Mathlib.Omega.{arith}
 use borrow.Author.Tests.{lt-ltb, le-ltb, le-leb}
 use lib.ListN.{length, get_or, take, drop, length-drop, drop_of_length-le}
 use lib.Seq.{drop-cons, drop-drop}
+use Rattle.std.specs.Prelude.{Result, Err}
 use Rattle.words.specs.declared.Refusal.TheVariants as Why
+use Rattle.words.specs.declared.Count.{Count}
+use Rattle.words.specs.declared.Refusal.{Refusal}
 use Rattle.slips.specs.Good.{torque}
 use Rattle.slips.specs.Slip.{measures, body_length, little, words, bodied, slip, slip_at}
 use Rattle.slips.specs.Promise.{ReadsSetting}
 use Rattle.slips.specs.Inner.{Judges}
-use Rattle.slips.proofs.ByTests.{start_asked, kind_asked, body_asked}
-use Rattle.std.specs.Prelude.{Result, Err}
-use Rattle.words.specs.declared.Count.{Count}
-use Rattle.words.specs.declared.Refusal.{Refusal}
 use Rattle.slips.specs.declared.Setting.{Setting}
+use Rattle.slips.proofs.ByTests.{start_asked, kind_asked, body_asked}
 
 above_three : (k : ℕ) → (k ≡ 0 → ⊥) → (k ≡ 1 → ⊥) → (k ≡ 2 → ⊥) → (k ≡ 3 → ⊥) → 4 ≤ k
 above_three zero a b c d = absurd (a refl)

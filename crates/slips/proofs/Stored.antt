@@ -17,9 +17,11 @@ use borrow.Author.Tests.{lt-ltb}
 use lib.Ieee.{binary32, to_bits}
 use lib.ListN.{length, set}
 use lib.Seq.{sets, sets-eq}
+use Rattle.std.specs.Prelude.{Ok, Err}
 use Rattle.words.specs.Lays.{Lays}
 use Rattle.words.specs.declared.Count.{Count}
 use Rattle.words.specs.declared.Refusal.TheVariants as Why
+use Rattle.words.specs.Answer.{Written}
 use Rattle.words.proofs.Lays.{fits_there, sets_append}
 use Rattle.slips.specs.Good.{Measure, good_word, good}
 use Rattle.slips.specs.Slip.{measures, spread, form}
@@ -29,8 +31,6 @@ use Rattle.slips.specs.declared.Range.{Range}
 use Rattle.slips.specs.declared.Setting.{Setting}
 use Rattle.slips.specs.declared.Setting.TheVariants as S
 use Rattle.slips.proofs.GoodRange.{alone}
-use Rattle.std.specs.Prelude.{Ok, Err}
-use Rattle.words.specs.Answer.{Written}
 
 pub word_stored : (s : List ℕ) (at w : ℕ) → w < 4294967296
     → LaysWord w s at (set (set (set (set s at (w % 256)) (at + 1) (w / 256 % 256)) (at + 2) (w / 256 / 256 % 256)) (at + 3) (w / 256 / 256 / 256))

@@ -7,11 +7,11 @@ use Rattle.std.specs.Prelude.{ℕ, Bool, List, [], ◌∷◌, ◌≡◌, length,
 use Rattle.std.proofs.lemmas.List.Edits.{sets}
 use Rattle.words.specs.Answer.{pick, refused, by, means_written, Written}
 use Rattle.words.specs.Lays.{writing, laid}
+use Rattle.words.specs.declared.Count.{Count}
+use Rattle.words.specs.declared.Refusal.{Refusal}
 use Rattle.slips.specs.Good.{Measure}
 use Rattle.slips.specs.Slip.{spread, form, judged}
 use Rattle.slips.specs.Promise.{means_read_setting, OfF32}
-use Rattle.words.specs.declared.Count.{Count}
-use Rattle.words.specs.declared.Refusal.{Refusal}
 use Rattle.slips.specs.declared.Setting.{Setting}
 
 pub record Judges (k : ℕ) (ms : List Measure) (ws : List ℕ) (r : Result (Setting × Count) Refusal) : Type 0 where

@@ -8,11 +8,11 @@ use native.Mathlib.Omega.{arith}
 use borrow.Author.Tests.{ltb-true, lt-ltb}
 use lib.IntN.{ℤ, pos, negsuc}
 use lib.Signed.{lt_z}
+use Rattle.std.specs.Prelude.{Result}
+use Rattle.words.specs.declared.Refusal.{Refusal}
 use Rattle.words.proofs.Cases.{clash}
 use Rattle.turns.specs.Turns.{by_thread, means_meaning, Means}
 use Rattle.turns.specs.declared.Turn.TheVariants.{Tighten, Loosen, Hold}
-use Rattle.std.specs.Prelude.{Result}
-use Rattle.words.specs.declared.Refusal.{Refusal}
 use Rattle.turns.specs.declared.Turn.{Turn}
 
 module _ {code : ℕ} {r : Result Turn Refusal} where

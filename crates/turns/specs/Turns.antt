@@ -8,9 +8,9 @@
 --   Means v code r              what `means` promises
 use Rattle.std.specs.Prelude.{ℕ, zero, suc, ◌≡◌, ℤ, pos, negsuc, Result, Ok, Err}
 use Rattle.words.specs.Answer.{Answer, gives, refused, by, because}
+use Rattle.words.specs.declared.Refusal.{Refusal}
 use Rattle.turns.specs.declared.Turn.{Turn}
 use Rattle.turns.specs.declared.Turn.TheVariants.{Tighten, Loosen, Hold}
-use Rattle.words.specs.declared.Refusal.{Refusal}
 
 abbrev pub turn_of : ℤ → Turn
 turn_of (pos zero) = Hold

@@ -14,13 +14,13 @@ use mathlib.Core.Bool.{false}
 use native.Mathlib.Omega.{arith}
 use lib.ListN.{length}
 use Rattle.words.specs.declared.Count.{Count}
+use Rattle.words.specs.Answer.{Written}
 use Rattle.groups.specs.Promise.{SpelledLength, Stores}
 use Rattle.groups.specs.declared.Value.TheVariants.{Unsigned}
 use Rattle.groups.proofs.Spelling.{Spelled, last, byte, spelled, some_bytes, spelled_unique}
 use Rattle.groups.proofs.Lookup.{unsigned_short, unsigned_long}
 use Rattle.uleb128.specs.Unsigned.{form}
 use Rattle.uleb128.specs.Promise.{LengthU64, WritesU64}
-use Rattle.words.specs.Answer.{Written}
 
 pub form_spelled : (v : ℕ) → Spelled false 128 v (form v)
 unfolding form

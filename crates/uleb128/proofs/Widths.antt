@@ -54,8 +54,8 @@ module _ (most top : ℕ) (wide : Wide most top) (s : List ℕ) (at : ℕ) where
   wide_sound : Sound (unsigned most top)
   wide_sound = sound most top (omega (arith, wide.some)) wide.low
 
-  pub says_one : at < length s → get_or s at 0 < 128 → Reads (unsigned most top) s at (gives (get_or s at 0, 1))
-  says_one there low = due_kept (read_one (unsigned most top) wide.some s at there low ∙ rw (digits_one (get_or s at 0) low))
+  pub says_one : {b : ℕ} → b ≡ get_or s at 0 → at < length s → b < 128 → Reads (unsigned most top) s at (gives (b, 1))
+  says_one {b} e there low = due_kept (read_one (unsigned most top) wide.some s at e there low ∙ rw (digits_one b low))
 
   pub says_past : length s < at → Reads (unsigned most top) s at (refused (by_at 4 at))
   says_past h = due_kept (read_past (unsigned most top) s at h)

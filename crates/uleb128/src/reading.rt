@@ -2,7 +2,6 @@
 // port of secure-foundations/vest, `leb128.rs`, `parse` (NOTICE).
 ghost use Rattle.std.specs.Prelude.{◌≡◌, false, ◌+◌, ◌-◌, ◌*◌, ◌^◌, ◌<◌, ltb};
 ghost use Rattle.words.specs.Answer.{pick, either, means_read};
-ghost use Rattle.groups.specs.Inner.{OneByte};
 ghost use Rattle.groups.specs.Width.{Reads};
 ghost use Rattle.uleb128.specs.Unsigned.{unsigned};
 ghost use Rattle.uleb128.specs.Inner.{Wide, NotOneByte};
@@ -11,18 +10,6 @@ ghost use Rattle.uleb128.specs.Promise.{ReadsU64, ReadsU32};
 use bits::is_high_8_bit_set;
 use groups::{Walked, walk};
 use words::{Count, Fault, Place, Refusal};
-
-// Whether the byte at the place is a group of its own: one below 128. Most numbers take one byte, so a reader asks this first.
-fn one_byte(bytes: &[u8], at: usize) -> bool
-    ensures { OneByte bytes.now at result }
-{
-    if bytes.len() <= at {
-        return false;
-    }
-    let b = bytes[at];
-    let more = is_high_8_bit_set(b);
-    !more
-}
 
 // The number of a group: its high bytes sum to sum, and its last byte weighs weight.
 fn number(sum: u64, weight: u64, high: usize, last: u8) -> (u64, Count)
@@ -38,22 +25,14 @@ fn overflow(at: usize, most: usize) -> Fault
     requires { (0 < most) × (at + most < 2 ^ 64) }
     ensures { result ≡ record { 0 = Refusal.Overflow; 1 = record { 0 = at + (most - 1) } } }
 {
-    let before = most - 1;
-    let place = at + before;
-    Fault(Refusal::Overflow, Place(place))
+    Fault(Refusal::Overflow, Place(at + (most - 1)))
 }
 
 // Whether n bytes that end in last are too large for the width.
 fn too_large(n: usize, last: u8, most: usize, top: u8) -> bool
     ensures { result ≡ pick (ltb n most) false (either (ltb most n) (ltb top last)) }
 {
-    if n < most {
-        return false;
-    }
-    if most < n {
-        return true;
-    }
-    top < last
+    most <= n && (most < n || top < last)
 }
 
 // A number of at most most bytes, whose last byte at that length is at most top. One byte alone was read before.
@@ -79,14 +58,11 @@ fn read_several(bytes: &[u8], start: Place, most: usize, top: u8) -> Result<(u64
             last,
         } => {
             let high = count.0;
-            let n = high + 1;
-            let large = too_large(n, last, most, top);
-            if large {
+            if too_large(high + 1, last, most, top) {
                 return Err(overflow(at, most));
             }
             if last < 1 {
-                let ends = at + high;
-                return Err(Fault(Refusal::NotShortest, Place(ends)));
+                return Err(Fault(Refusal::NotShortest, Place(at + high)));
             }
             Ok(number(sum, weight, high, last))
         }
@@ -99,10 +75,8 @@ fn read_width(bytes: &[u8], start: Place, most: usize, top: u8) -> Result<(u64, 
     ensures { Reads (unsigned most top) bytes.now start.0 (means_read result) }
 {
     let at = start.0;
-    let small = one_byte(bytes, at);
-    if small {
-        let b = bytes[at];
-        return Ok((b as u64, Count(1)));
+    if at < bytes.len() && !is_high_8_bit_set(bytes[at]) {
+        return Ok((bytes[at] as u64, Count(1)));
     }
     read_several(bytes, start, most, top)
 }

@@ -22,6 +22,7 @@ use borrow.Author.Tests.{lt-ltb, le-ltb, le-leb, lt-leb, eq-eqb, ne_eqb}
 use lib.Dec.{ltb, eqb, leb-suc-suc, eqb-suc-suc}
 use lib.ListN.{length, get_or, take, drop, drop_of_length-le, get_or-eq_default}
 use lib.Seq.{drop-cons}
+use Rattle.std.specs.Prelude.{Ok}
 use Rattle.words.specs.Answer.{pick, Answer, gives, refused, by_at, Why, moved_why, moved, Reading, means_read}
 use Rattle.words.specs.declared.Count.{Count}
 use Rattle.words.proofs.Cases.{by_order, by_test, both_false}
@@ -36,7 +37,6 @@ use Rattle.uleb128.specs.Unsigned.{unsigned}
 use Rattle.uleb128.proofs.Widths.{sound}
 use Rattle.uleb128.proofs.ReadsForms.{read_begins}
 use Rattle.uleb128_rec.specs.Inner.{Joins, byte_ahead}
-use Rattle.std.specs.Prelude.{Ok}
 
 -- a number that is one byte 0
 zero_alone : (l : List ℕ) → run l ≡ 0 → get_or l (run l) 0 ≡ 0 → digits (take (run l + 1) l) ≡ 0

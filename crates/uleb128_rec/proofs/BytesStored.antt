@@ -15,6 +15,7 @@ use native.Mathlib.Numerals.{add-one}
 use native.Mathlib.Omega.{arith}
 use lib.ListN.{length, set}
 use lib.Seq.{sets, sets-eq, set_comm}
+use Rattle.std.specs.Prelude.{Ok}
 use Rattle.words.specs.Lays.{Lays}
 use Rattle.words.proofs.Lays.{fits_there}
 use Rattle.bits.specs.Macros.{take_low_7_bits_lem, set_high_8_bit_lem}
@@ -22,7 +23,6 @@ use Rattle.bits.proofs.HighBit.{set_seven}
 use Rattle.uleb128.specs.Unsigned.{form}
 use Rattle.uleb128.proofs.Forms.{form_small, form_large, form_some}
 use Rattle.uleb128_rec.specs.Inner.{WritesRest, RestFits}
-use Rattle.std.specs.Prelude.{Ok}
 
 -- a store before a run of stores goes ahead of it
 set_ahead : (g s : List ℕ) (i j b : ℕ) → i < j → set (sets s j g) i b ≡ sets (set s i b) j g

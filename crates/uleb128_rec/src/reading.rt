@@ -21,7 +21,7 @@ fn behind(b: u8, read: Result<(u64, Count), Fault>, next: usize) -> Result<(u64,
         return Err(Fault(Refusal::NotShortest, Place(next)));
     }
     let low = take_low_7_bits(b as u64) as u64;
-    Ok((low + 128 * v, Count(count.0 + 1)))
+    Ok((128 * v + low, Count(count.0 + 1)))
 }
 
 // The number at the place, of at most left bytes.
@@ -33,23 +33,17 @@ fn read_rest(bytes: &[u8], at: usize, left: usize) -> Result<(u64, Count), Fault
         return Err(Fault(Refusal::End, Place(bytes.len())));
     }
     let b = bytes[at];
-    let high = is_high_8_bit_set(b);
-    if !high {
-        let v = b as u64;
-        if 1 < left {
-            return Ok((v, Count(1)));
-        }
-        if 1 < b {
+    if !is_high_8_bit_set(b) {
+        if left < 2 && 1 < b {
             return Err(Fault(Refusal::Overflow, Place(at)));
         }
-        return Ok((v, Count(1)));
+        return Ok((b as u64, Count(1)));
     }
     if left < 2 {
         return Err(Fault(Refusal::Overflow, Place(at)));
     }
     let next = at + 1;
-    let fewer = left - 1;
-    behind(b, read_rest(bytes, next, fewer), next)
+    behind(b, read_rest(bytes, next, left - 1), next)
 }
 
 // The same answers as `read_u64`.

@@ -18,11 +18,8 @@ fn write_rest(v: u64, buffer: &mut [u8], at: usize, left: usize) -> usize
         buffer[at] = low;
         return 1;
     }
-    let next = at + 1;
-    let fewer = left - 1;
-    let more = write_rest(up, buffer, next, fewer);
-    let byte = set_high_8_bit(low);
-    buffer[at] = byte;
+    let more = write_rest(up, buffer, at + 1, left - 1);
+    buffer[at] = set_high_8_bit(low);
     more + 1
 }
 
@@ -31,12 +28,9 @@ pub fn write_u64_rec(v: u64, buffer: &mut [u8], place: Place) -> Result<Count, R
     ensures { WritesU64Rec v buffer.old place.0 result buffer.new }
 {
     let needed = length_u64(v);
-    let room = has_room(buffer.len(), place, needed);
-    if !room {
+    if !has_room(buffer.len(), place, needed) {
         return Err(Refusal::NoRoom);
     }
-    let at = place.0;
-    let n = needed.0;
-    let count = write_rest(v, buffer, at, n);
+    let count = write_rest(v, buffer, place.0, needed.0);
     Ok(Count(count))
 }

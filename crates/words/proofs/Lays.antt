@@ -16,13 +16,13 @@ use borrow.Author.Tests.{le-leb, lt-leb, leb-true, leb-false}
 use lib.Dec.{leb}
 use lib.ListN.{length, take, drop, set}
 use lib.Seq.{sets}
+use Rattle.std.specs.Prelude.{Ok, Err}
 use Rattle.words.specs.Answer.{gives, Written}
 use Rattle.words.specs.Lays.{writing, laid, Lays}
 use Rattle.words.specs.Promise.{HasRoom}
 use Rattle.words.specs.declared.Count.{Count}
 use Rattle.words.specs.declared.Refusal.TheVariants.{NoRoom}
 use Rattle.words.proofs.Cases.{by_order}
-use Rattle.std.specs.Prelude.{Ok, Err}
 
 module _ (size at n : ℕ) where
   pub room_none : size < at → HasRoom size at n false

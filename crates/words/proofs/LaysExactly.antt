@@ -12,13 +12,13 @@ use native.Mathlib.Omega.{arith}
 use borrow.Author.Tests.{le-leb, lt-leb}
 use lib.ListN.{length, take, drop, length-append, length-drop}
 use lib.Seq.{length-take-le, drop-append_seam, take-append_seam}
+use Rattle.std.specs.Prelude.{Ok, Err}
 use Rattle.words.specs.Answer.{gives, means_written, Written}
 use Rattle.words.specs.Lays.{writing, laid, Lays, LaysExactly}
 use Rattle.words.specs.declared.Count.{Count}
 use Rattle.words.specs.declared.Refusal.TheVariants.{NoRoom}
 use Rattle.words.proofs.Cases.{by_order}
 use Rattle.words.proofs.OneMeaning.{same_written, apart}
-use Rattle.std.specs.Prelude.{Ok, Err}
 
 module _ (bytes s : List ℕ) (at : ℕ) (r : Written) (out : List ℕ) (w : Lays bytes s at r out) where
   pub laid_fits : at + length bytes ≤ length s → (r ≡ Ok (record { 0 = length bytes })) × (out ≡ take at s ++ bytes ++ drop (at + length bytes) s)

@@ -14,13 +14,13 @@ use mathlib.Core.List.{List, [], ◌++◌}
 use native.Mathlib.Omega.{arith}
 use lib.ListN.{length, length-append}
 use lib.Seq.{sets, sets-eq, length-sets}
+use Rattle.std.specs.Prelude.{Ok, IsOk}
 use Rattle.words.specs.Inner.{Puts}
 use Rattle.words.specs.Lays.{Lays}
-use Rattle.words.specs.Answer.{means_written, Written}
+use Rattle.words.specs.Answer.{Written}
 use Rattle.words.specs.declared.Count.{Count}
 use Rattle.words.proofs.Lays.{fits_there, sets_append}
 use Rattle.words.proofs.LaysExactly.{laid_fits, count_fits}
-use Rattle.std.specs.Prelude.{Ok, IsOk}
 
 pub record Laying (all s : List ℕ) (at : ℕ) (out : List ℕ) (to : ℕ) (rest : List ℕ) : Type 0 where
   pub kept : length out ≡ length s

@@ -17,11 +17,11 @@ use mathlib.Core.List.{List}
 use mathlib.Core.Path.{◌≡◌, refl, ap, sym, ◌∙◌, subst}
 use mathlib.Core.Logic.{◌↔◌}
 use native.Mathlib.Omega.{arith}
+use Rattle.std.specs.Prelude.{Ok, Err}
 use Rattle.words.specs.Answer.{Answer, gives, refused, means_written, because, because_at, Why, by, by_at, number_in, Written}
 use Rattle.words.specs.Lays.{Lays}
 use Rattle.words.specs.declared.Refusal.{Refusal}
 use Rattle.words.proofs.OneNumber.{refusal_of, refusal_back, same_refusal}
-use Rattle.std.specs.Prelude.{Ok, Err}
 
 pub apart : {A X : Type 0} {a : A} {k : Why} → ◌≡◌ {A = Answer A} (gives a) (refused k) → X
 apart e = let z : ◌≡◌ {A = ℕ} 0 1 = cc in absurd (omega arith)

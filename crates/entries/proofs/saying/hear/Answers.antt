@@ -1,6 +1,6 @@
 -- `entries::hear` keeps what it promises inside the crate: field by field, `Heard` holds, and the turn is absurd or it isn't.
-use Rattle.std.proofs.Common.{ℕ, ◌≡◌, ◌+◌, ◌<◌, ◌^◌, arith, List, [], ◌∷◌, ℤ}
 use Rattle.std.specs.Int.Signed.{mag}
+use Rattle.std.proofs.Common.{ℕ, ◌≡◌, ◌+◌, ◌<◌, ◌^◌, arith, List, [], ◌∷◌, ℤ}
 use Rattle.words.specs.Answer.{gives}
 use Rattle.groups.specs.Group.{Bytes}
 use Rattle.groups.specs.Width.{read}

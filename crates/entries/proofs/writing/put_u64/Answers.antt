@@ -8,4 +8,4 @@ pub bounds-buffer-at : goal.bounds-buffer-at
 bounds-buffer-at c = omega (arith, c.requires, form_some c.args.v)
 
 pub returns-then-v-lt-ONE_BYTE : goal.returns-then-v-lt-ONE_BYTE
-returns-then-v-lt-ONE_BYTE c = small_put _ _ _ c.if-v-lt-ONE_BYTE.true c.take_low_7_bits-bits.ensures
+returns-then-v-lt-ONE_BYTE c = small_put _ _ _ c.if-v-lt-ONE_BYTE.true c.take_low_7_bits.ensures

@@ -1,6 +1,6 @@
 -- `entries::write_entry` meets its promise: an absurd turn, no room, or the entry is laid down.
-use Rattle.std.proofs.Common.{rules, ◌<◌, ◌^◌, arith}
 use Rattle.std.specs.Int.Signed.{mag}
+use Rattle.std.proofs.Common.{rules, ◌<◌, ◌^◌, arith}
 use Rattle.words.proofs.Lays.{room_refused, room_there}
 use Rattle.words.proofs.LaysInParts.{puts_lays}
 use Rattle.groups.proofs.SignedWords.{word_back}
@@ -8,17 +8,17 @@ use Rattle.entries.specs.Promise.{sensible_turn}
 use Rattle.entries.proofs.NextMarks.{told_no}
 use Rattle.entries.proofs.writing.write_entry.Goals as goal
 
-pub returns-then-not-room : goal.returns-then-not-room
-returns-then-not-room c =
+pub returns-then-not-has_room : goal.returns-then-not-has_room
+returns-then-not-has_room c =
     let h : mag c.args.entry.turn < 2 ^ 63 = omega arith in
-    let told = rw (word_back _ h) at c.is_absurd-absurd.ensures in
-    sensible_turn (told_no {t = c.is_absurd-absurd.result} told (search rules))
-    (room_refused _ _ _ c.has_room-room.ensures c.entry_length-all.ensures.is c.if-not-room.true)
+    let told = rw (word_back _ h) at c.is_absurd.ensures in
+    sensible_turn (told_no {t = c.is_absurd.result} told (search rules))
+    (room_refused _ _ _ c.has_room.ensures c.entry_length-all.ensures.is c.if-not-has_room.true)
 
 pub returns : goal.returns
 returns c =
     let h : mag c.args.entry.turn < 2 ^ 63 = omega arith in
-    let told = rw (word_back _ h) at c.is_absurd-absurd.ensures in
+    let told = rw (word_back _ h) at c.is_absurd.ensures in
     let all = c.entry_length-all.ensures.is in
-    sensible_turn (told_no {t = c.is_absurd-absurd.result} told (search rules))
-    (puts_lays _ (omega (arith, room_there c.has_room-room.ensures c.if-not-room.false, all)) all c.put_entry.ensures)
+    sensible_turn (told_no {t = c.is_absurd.result} told (search rules))
+    (puts_lays _ (omega (arith, room_there c.has_room.ensures c.if-not-has_room.false, all)) all c.put_entry.ensures)

@@ -1,18 +1,24 @@
 -- `groups::lay` keeps what it promises inside the crate: each way out is a law of `StoreLoop`.
-use Rattle.std.proofs.Common.{sym, arith, rules}
-use Rattle.words.proofs.Lays.{room_refused}
+use Rattle.std.proofs.Common.{ℕ, sym, arith, length-drop}
+use Rattle.std.proofs.lemmas.List.{length-take}
+use Rattle.words.proofs.Lays.{room_refused, room_there}
 use Rattle.groups.proofs.Spelling.{length_groups}
-use Rattle.groups.proofs.StoreLoop.{one_stored, all_stored}
+use Rattle.groups.proofs.StoreLoop.{none_stored, one_stored, all_stored}
 use Rattle.groups.proofs.writing.lay.Goals as goal
 
-pub returns-then-not-room : goal.returns-then-not-room
-returns-then-not-room c = room_refused _ _ _ c.has_room-room.ensures (sym (length_groups _ _ _)) c.if-not-room.true
+pub returns-then-not-has_room : goal.returns-then-not-has_room
+returns-then-not-has_room c = room_refused _ _ _ c.has_room.ensures (sym (length_groups _ _ _)) c.if-not-has_room.true
 
-pub loop-i-preserved : goal.loop-i-preserved
-loop-i-preserved c =
-    one_stored _ _ _ _ _ c.loop-i.invariant (search rules) c.take_low_7_bits-bits.ensures c.said.ensures c.set_high_8_bit-byte.ensures
+pub loop-byte-init : goal.loop-byte-init
+loop-byte-init c = none_stored _ _ _ c.requires
+
+pub loop-byte-preserved : goal.loop-byte-preserved
+loop-byte-preserved c =
+    one_stored _ _ _ c.loop-byte.invariant (omega (arith, length-take {A = ℕ})) (omega arith) c.take_low_7_bits.ensures c.said.ensures c.set_high_8_bit.ensures
 
 pub returns : goal.returns
 returns c =
-    rw (c.said-byte.ensures, c.take_low_7_bits-bits-2.ensures)
-    (all_stored _ _ _ _ _ c.loop-i.invariant _ (omega arith) c.loop-i-test.false)
+    let room = room_there c.has_room.ensures c.if-not-has_room.false in
+    all_stored _ _ _ c.loop-byte.invariant _ _ _ _ room (omega (arith, length-take {A = ℕ}, length-drop {A = ℕ})) (omega (arith, length-take {A = ℕ}, length-drop {A = ℕ}))
+    (omega (arith, length-take {A = ℕ}, length-drop {A = ℕ})) (omega (arith, length-take {A = ℕ}, length-drop {A = ℕ}))
+    c.take_low_7_bits-2.ensures c.said-2.ensures

@@ -1,7 +1,7 @@
 -- `groups::store` meets its promise: as many groups of seven bits as the spelling is long are the spelling, by the number's kind.
 use Rattle.std.proofs.Common.{arith, rules}
 use Rattle.groups.proofs.Spelling.{spelled, spelled_laid, takes_some}
-use Rattle.groups.proofs.SignedWords.{laid_back}
+use Rattle.groups.proofs.SignedWords.{below_sign, laid_back}
 use Rattle.groups.proofs.writing.store.Goals as goal
 
 pub lay-requires : goal.lay-requires
@@ -17,4 +17,4 @@ returns-in-Unsigned c =
 pub returns-in-Signed : goal.returns-in-Signed
 returns-in-Signed c =
     rw c.in-Signed.is
-    (laid_back c.in-Signed.v (search rules) c.below_zero.ensures c.magnitude.ensures c.length_signed.ensures c.lay-in-Signed.ensures)
+    (laid_back c.in-Signed.v (search rules) (below_sign _) c.magnitude.ensures c.length_signed.ensures c.lay-in-Signed.ensures)

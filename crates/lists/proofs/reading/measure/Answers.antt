@@ -2,7 +2,7 @@
 use Rattle.lists.proofs.NumbersLeft.{clean_count}
 use Rattle.lists.proofs.reading.measure.Goals as goal
 
-pub returns-then-sound : goal.returns-then-sound
-returns-then-sound c = record {
-  is = clean_count _ (λ i. (c.type_inv.block i).fits) (c.clean-sound.ensures c.if-sound.true) c.low_bytes-count.ensures;
+pub returns-then-clean : goal.returns-then-clean
+returns-then-clean c = record {
+  is = clean_count _ (λ i. (c.type_inv.block i).fits) (c.clean.ensures c.if-clean.true) c.low_bytes.ensures;
 }

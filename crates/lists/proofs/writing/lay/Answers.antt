@@ -4,13 +4,10 @@ use Rattle.lists.proofs.LayLoop.{one_of_list, all_of_list, room_next}
 use Rattle.lists.proofs.writing.lay.Goals as goal
 
 pub put-to-requires : goal.put-to-requires
-put-to-requires c = room_next _ _ c.loop-i.invariant.laying c.requires c.loop-i-test.true
+put-to-requires c = room_next _ _ c.loop-v.invariant c.requires c.loop-v-test.true
 
-pub loop-i-preserved : goal.loop-i-preserved
-loop-i-preserved c = record {
-  within = omega arith;
-  laying = one_of_list _ _ c.loop-i.invariant.laying c.loop-i-test.true c.put-to.ensures;
-}
+pub loop-v-preserved : goal.loop-v-preserved
+loop-v-preserved c = one_of_list _ _ c.loop-v.invariant c.loop-v-test.true c.put-to.ensures
 
 pub returns : goal.returns
-returns c = all_of_list _ _ c.loop-i.invariant.laying c.requires c.loop-i.invariant.within c.loop-i-test.false
+returns c = all_of_list _ _ c.loop-v.invariant c.requires (omega arith) c.loop-v-test.false

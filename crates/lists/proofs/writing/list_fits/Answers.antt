@@ -2,5 +2,5 @@
 use Rattle.lists.proofs.LayLoop.{ample}
 use Rattle.lists.proofs.writing.list_fits.Goals as goal
 
-pub returns-then-ample : goal.returns-then-ample
-returns-then-ample c = ample _ (λ i. (c.type_inv.numbers i).fits) c.has_room-ample.ensures c.if-ample.true
+pub returns-then-has_room : goal.returns-then-has_room
+returns-then-has_room c = rw c.if-has_room.true (ample _ (λ i. (c.type_inv.numbers i).fits) c.has_room.ensures c.if-has_room.true)

@@ -4,15 +4,15 @@ use Rattle.uleb128.proofs.Forms.{form_takes}
 use Rattle.lists.proofs.TotalLoop.{Adding, one_added, all_added}
 use Rattle.lists.proofs.writing.total_length.Goals as goal
 
-pub loop-i-preserved : goal.loop-i-preserved
-loop-i-preserved c = one_added _ c.loop-i.invariant c.loop-i-test.true (c.type_inv.numbers _).fits (form_takes _ c.spelled_length-count.ensures).is
+pub loop-v-preserved : goal.loop-v-preserved
+loop-v-preserved c = one_added _ c.loop-v.invariant c.loop-v-test.true (c.type_inv.numbers _).fits (form_takes _ c.spelled_length-total.ensures).is
 
 -- with the number, no more are counted than ten bytes for each
 pub overflow_add-total : goal.overflow_add-total
 overflow_add-total c =
-    let a : Adding c.args.numbers.now (c.loop-i.total + c.spelled_length-count.result.0) (c.loop-i.i + 1) =
-    one_added _ c.loop-i.invariant c.loop-i-test.true (c.type_inv.numbers _).fits (form_takes _ c.spelled_length-count.ensures).is in
+    let a : Adding c.args.numbers.now (c.loop-v.total + c.spelled_length-total.result.0) (c.loop-v.v-index + 1) =
+    one_added _ c.loop-v.invariant c.loop-v-test.true (c.type_inv.numbers _).fits (form_takes _ c.spelled_length-total.ensures).is in
     omega (arith, a.few, a.within, c.requires)
 
 pub returns : goal.returns
-returns c = record { is = all_added _ c.loop-i.invariant c.loop-i-test.false }
+returns c = record { is = all_added _ c.loop-v.invariant c.loop-v-test.false }

@@ -4,5 +4,5 @@ use Rattle.words.proofs.Lays.{room_refused}
 use Rattle.lists.proofs.LayLoop.{list_laid}
 use Rattle.lists.proofs.writing.write_list.Goals as goal
 
-pub returns-then-not-room : goal.returns-then-not-room
-returns-then-not-room c = list_laid _ _ _ (search rules) (room_refused _ _ _ c.list_fits-room.ensures refl c.if-not-room.true)
+pub returns-then-not-list_fits : goal.returns-then-not-list_fits
+returns-then-not-list_fits c = list_laid _ _ _ (search rules) (room_refused _ _ _ c.list_fits.ensures refl c.if-not-list_fits.true)

@@ -29,38 +29,38 @@ returns-in-Long c =
     rw c.overflow-in-Long.ensures (says_overrun _ _ (search rules) _ _ q.here (omega (arith, q.many)))
 
 -- the walk came to a byte below 128
-pub overflow_add-n : goal.overflow_add-n
-overflow_add-n c = omega (arith, (walk_tells _ _ c.walk.ensures c.in-Closed.is).few)
+pub overflow_add-high : goal.overflow_add-high
+overflow_add-high c = omega (arith, (walk_tells _ _ c.walk.ensures c.in-Closed.is).few)
 
-pub overflow-requires-then-large : goal.overflow-requires-then-large
-overflow-requires-then-large c =
+pub overflow-requires-then-too_large : goal.overflow-requires-then-too_large
+overflow-requires-then-too_large c =
     let q = walk_tells _ _ c.walk.ensures c.in-Closed.is in
     let wide = c.requires.0 in
-    omega (arith, closed_inside q, wide.some, large_there _ _ wide _ _ q c.too_large-large.ensures c.if-large.true)
+    omega (arith, closed_inside q, wide.some, large_there _ _ wide _ _ q c.too_large.ensures c.if-too_large.true)
 
-pub returns-then-large : goal.returns-then-large
-returns-then-large c =
+pub returns-then-too_large : goal.returns-then-too_large
+returns-then-too_large c =
     let q = walk_tells _ _ c.walk.ensures c.in-Closed.is in
-    rw c.overflow-then-large.ensures (says_large _ _ (search rules) _ _ q c.too_large-large.ensures c.if-large.true)
+    rw c.overflow-then-too_large.ensures (says_large _ _ (search rules) _ _ q c.too_large.ensures c.if-too_large.true)
 
 -- it isn't too large
-pub overflow_add-ends : goal.overflow_add-ends
-overflow_add-ends c = omega (arith, closed_inside (walk_tells _ _ c.walk.ensures c.in-Closed.is))
+pub overflow_add-result : goal.overflow_add-result
+overflow_add-result c = omega (arith, closed_inside (walk_tells _ _ c.walk.ensures c.in-Closed.is))
 
 pub returns-then-last-lt1 : goal.returns-then-last-lt1
 returns-then-last-lt1 c =
     let q = walk_tells _ _ c.walk.ensures c.in-Closed.is in
-    let within = not_large _ _ c.requires.0 _ _ q c.too_large-large.ensures c.if-large.false in
+    let within = not_large _ _ c.requires.0 _ _ q c.too_large.ensures c.if-too_large.false in
     says_many _ _ (search rules) _ _ q within.0 (closed_several q c.requires.1) c.if-last-lt1.true
 
 pub number-requires : goal.number-requires
 number-requires c =
     let q = walk_tells _ _ c.walk.ensures c.in-Closed.is in
-    let within = not_large _ _ c.requires.0 _ _ q c.too_large-large.ensures c.if-large.false in
+    let within = not_large _ _ c.requires.0 _ _ q c.too_large.ensures c.if-too_large.false in
     (number_fits _ _ c.requires.0 _ _ q within.0 within.1, q.few)
 
 pub returns-else-last-lt1 : goal.returns-else-last-lt1
 returns-else-last-lt1 c =
     let q = walk_tells _ _ c.walk.ensures c.in-Closed.is in
-    let within = not_large _ _ c.requires.0 _ _ q c.too_large-large.ensures c.if-large.false in
+    let within = not_large _ _ c.requires.0 _ _ q c.too_large.ensures c.if-too_large.false in
     rw c.number.ensures (says_number _ _ (search rules) _ _ q within.0 within.1 (λ h. omega arith))

@@ -4,10 +4,10 @@ use Rattle.words.proofs.Lays.{room_refused, room_there}
 use Rattle.uleb128_rec.proofs.BytesStored.{all_written}
 use Rattle.uleb128_rec.proofs.writing.write_u64_rec.Goals as goal
 
-pub returns-then-not-room : goal.returns-then-not-room
-returns-then-not-room c = room_refused _ _ _ c.has_room-room.ensures c.length_u64-needed.ensures.is c.if-not-room.true
+pub returns-then-not-has_room : goal.returns-then-not-has_room
+returns-then-not-has_room c = room_refused _ _ _ c.has_room.ensures c.length_u64-needed.ensures.is c.if-not-has_room.true
 
 pub returns : goal.returns
 returns c =
-    let room = room_there c.has_room-room.ensures c.if-not-room.false in
+    let room = room_there c.has_room.ensures c.if-not-has_room.false in
     all_written _ _ _ _ (omega (arith, c.length_u64-needed.ensures.is)) c.write_rest-count.ensures
