@@ -59,7 +59,7 @@ def parts(text):
 
 
 class Function:
-    """A function: `name` with its crate (and type), whether callers outside its crate may name it, its parameters, answer, clauses and text."""
+    """A function: `name` with its crate (and type), whether callers outside its crate may name it, its `bounds`, parameters, answer, clauses and text."""
 
     def __init__(self, crate, path, text, holder, start, at, name):
         self.crate, self.path = crate, path
@@ -67,6 +67,7 @@ class Function:
         before = text[start:at]
         self.public = bool(re.search(r"\bpub\b(?!\s*\(\s*(?:crate|super|self)\s*\))|\bextern\b|no_mangle", before))
         opens = text.index("(", at)
+        self.bounds = text[at:opens].partition("<")[2]
         closes = closing(text, opens)
         self.parameters = {}
         for part in parts(text[opens + 1 : closes]):

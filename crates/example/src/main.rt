@@ -16,17 +16,19 @@ use words::{Count, Fault, Place, Refusal};
 fn say_written(out: &impl Print, written: Result<Count, Refusal>) -> io::Result<()> {
     match written {
         Ok(Count(count)) => println!(out; "count {count}"),
-        Err(refusal) => say_refused(out, refusal),
+        Err(refusal) => println!(out; "refused {refusal}"),
     }
 }
 
-fn say_refused(out: &impl Print, refusal: Refusal) -> io::Result<()> {
-    println!(out; "refused {}", words::number(refusal))
+fn show_writing(out: &impl Print, buffer: &mut [u8]) -> io::Result<()> {
+    say_written(out, uleb128::write_u64(12857, buffer, Place(3)))?;
+    say_written(out, sleb128::write_i64(-2, buffer, Place(5)))?;
+    say_written(out, sleb128::write_i64(128, buffer, Place(7)))
 }
 
-// The same, and the place of the byte that decided it.
+// Says a refusal, and the place of the byte that decided it.
 fn say_fault(out: &impl Print, Fault(refusal, byte): Fault) -> io::Result<()> {
-    say_refused(out, refusal)?;
+    println!(out; "refused {refusal}")?;
     println!(out; "at {}", byte.0)
 }
 
@@ -54,7 +56,7 @@ fn say_meaning(out: &impl Print, quarters: i64, thread: u8) -> io::Result<()> {
         Ok(Turn::Tighten) => println!(out; "tighten"),
         Ok(Turn::Loosen) => println!(out; "loosen"),
         Ok(Turn::Hold) => println!(out; "hold"),
-        Err(refusal) => say_refused(out, refusal),
+        Err(refusal) => println!(out; "refused {refusal}"),
     }
 }
 
@@ -77,13 +79,13 @@ fn step_through(out: &impl Print, block: &[u8], from: Cursor) -> io::Result<()> 
                 next
             }
             Ok(Step::Gap(Fault(reason, byte), _, next)) => {
-                println!(out; "gap {}", words::number(reason))?;
+                println!(out; "gap {reason}")?;
                 println!(out; "at {}", byte.0)?;
                 next
             }
             Ok(Step::Tail(Count(count), _)) => return println!(out; "tail {count}"),
             Ok(Step::Finished(_)) => return Ok(()),
-            Err(refusal) => return say_refused(out, refusal),
+            Err(refusal) => return println!(out; "refused {refusal}"),
         };
     }
     Ok(())
@@ -93,7 +95,7 @@ fn step_through(out: &impl Print, block: &[u8], from: Cursor) -> io::Result<()> 
 fn step_from(out: &impl Print, block: &[u8], place: Place) -> io::Result<()> {
     match blocks::set_down(block, place) {
         Ok(cursor) => step_through(out, block, cursor),
-        Err(refusal) => say_refused(out, refusal),
+        Err(refusal) => println!(out; "refused {refusal}"),
     }
 }
 
@@ -102,7 +104,7 @@ fn read_all(out: &impl Print, block: &[u8], numbers: &mut [u64]) -> io::Result<(
     match lists::read_strict(block, numbers) {
         Ok(Numbers(count)) => println!(out; "numbers {count}"),
         Err(NotRead::Faulty(fault)) => say_fault(out, fault),
-        Err(NotRead::Refused(refusal)) => say_refused(out, refusal),
+        Err(NotRead::Refused(refusal)) => println!(out; "refused {refusal}"),
     }
 }
 
@@ -110,7 +112,7 @@ fn read_all(out: &impl Print, block: &[u8], numbers: &mut [u64]) -> io::Result<(
 fn read_setting(out: &impl Print, bytes: &[u8], place: Place, torque: f32) -> io::Result<()> {
     match slips::read_setting(bytes, place) {
         Ok((setting, _)) => say_setting(out, setting, torque),
-        Err(refusal) => say_refused(out, refusal),
+        Err(refusal) => println!(out; "refused {refusal}"),
     }
 }
 
@@ -128,7 +130,7 @@ fn say_setting(out: &impl Print, setting: Setting, torque: f32) -> io::Result<()
 fn read_phrase(out: &impl Print, numbers: &[u64], sentences: &mut [u64]) -> io::Result<()> {
     match phrases::read_phrase(numbers, sentences) {
         Ok(Numbers(count)) => println!(out; "sentences {count}"),
-        Err(refusal) => say_refused(out, refusal),
+        Err(refusal) => println!(out; "refused {refusal}"),
     }
 }
 
@@ -143,7 +145,7 @@ fn read_entries(out: &impl Print, block: &[u8]) -> io::Result<()> {
                 end
             }
             Ok(ReadEntry::Bad(refusal, end)) => {
-                say_refused(out, refusal)?;
+                println!(out; "refused {refusal}")?;
                 println!(out; "end {}", end.0)?;
                 end
             }
@@ -157,12 +159,6 @@ fn say_entry(out: &impl Print, entry: Entry) -> io::Result<()> {
     println!(out; "segment {}", entry.segment)?;
     println!(out; "sentence {}", entry.sentence)?;
     say_meaning(out, entry.turn, turns::RIGHT)
-}
-
-fn show_writing(out: &impl Print, buffer: &mut [u8]) -> io::Result<()> {
-    say_written(out, uleb128::write_u64(12857, buffer, Place(3)))?;
-    say_written(out, sleb128::write_i64(-2, buffer, Place(5)))?;
-    say_written(out, sleb128::write_i64(128, buffer, Place(7)))
 }
 
 fn show_reading(out: &impl Print, bytes: &[u8]) -> io::Result<()> {

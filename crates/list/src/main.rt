@@ -1,10 +1,10 @@
 // The program `list`: it reads standard input, writes its listing on standard output, and says on standard error what failed.
 //
-// No contract can say what is read or written. So every decision is a function that promises its answer, and the functions that
-// call the system only pass on what it answers: tools/check_code lets no test and no number stand in them.
+// No contract can say what the system gives or takes. So every decision is a function that promises its answer, and the functions
+// that call the system only pass on what it answers: tools/check_code lets no test and no number stand in them.
 #![tactic(auto)]
 
-ghost use Rattle.std.specs.Prelude.{◌+◌, ◌≤◌, ◌≡◌, length, is_ok, IfOk};
+ghost use Rattle.std.specs.Prelude.{◌+◌, ◌≤◌, ◌≡◌, length, take, is_ok, IfOk, IfSome};
 ghost use Rattle.texts.specs.Texts.{LaysText};
 ghost use Rattle.listing.specs.Program.{input_room, following, text_of, note_of, limit_note};
 ghost use Rattle.listing.specs.Promise.{Fronts};
@@ -12,7 +12,7 @@ ghost use Rattle.list.specs.Promise.{means_read, means_input, means_next};
 
 use blocks::BLOCK_LIMIT;
 use listing::{TEXT_ROOM, lay_listing};
-use std::io::{self, Print, Read, Stdin};
+use std::io::{self, Print, Read};
 use std::ops::ControlFlow;
 use words::Count;
 
@@ -37,10 +37,12 @@ fn after_read(there: Count, read: io::Result<usize>) -> io::Result<ControlFlow<C
     }
 }
 
-// Reads the input to its end, or until a byte more is there than a block may have.
-fn take_in(mut from: Stdin, input: &mut [u8]) -> io::Result<Count>
+// Reads the input to its end, or until a byte more is there than a block may have. Whatever pieces it comes in, the bytes at the front of
+// the buffer are then the first that the reader had. (What standard input has is not known; of a reader in memory it is.)
+fn take_in<R: Read>(from: &mut R, input: &mut [u8]) -> io::Result<Count>
     requires { length input.old ≡ input_room }
-    ensures { IfOk result (λ count. count.0 ≤ input_room) }
+    ensures within { IfOk result (λ count. count.0 ≤ input_room) }
+    ensures bytes { IfOk result (λ count. IfSome (R.remaining from.old) (λ xs. take count.0 input.new ≡ take (length input.old) xs)) }
 {
     let mut there = Count(0);
     loop {
@@ -91,7 +93,7 @@ fn main(rt: HostRuntime) {
     let mut input = [0u8; INPUT_ROOM];
     let mut text = [0u8; TEXT_ROOM];
     let mut note = [0u8; NOTE_ROOM];
-    let known = take_in(rt.stdin(), &mut input);
+    let known = take_in(&mut rt.stdin(), &mut input);
     let listed = lay_text(known, &input, &mut text);
     let written = rt.stdout().write_all(&text[..listed.0]);
     let noted = lay_note(known, written, &mut note);
