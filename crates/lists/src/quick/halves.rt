@@ -5,6 +5,7 @@ ghost use Rattle.lists.specs.InnerHalves.{Smalls, RestFits, RestStored, HalvesFi
 
 use crate::quick::lows::low_bytes;
 use crate::quick::wide::{at_once, store16};
+use bits::is_high_8_bit_set;
 use uleb128::read_u64;
 use words::Place;
 
@@ -15,7 +16,7 @@ fn small(s: &[u8], numbers: &mut [u64]) -> usize
     ensures few { result ≤ 16 }
     ensures stored { Smalls s.now numbers.old result numbers.new }
 {
-    if 128 <= s[0] {
+    if is_high_8_bit_set(s[0]) {
         return 0;
     }
     store16(s, numbers)
@@ -81,7 +82,7 @@ fn start_before(s: &[u8], place: usize) -> usize
 {
     s[..place]
         .iter()
-        .rposition(|b| *b < 128)
+        .rposition(|b| !is_high_8_bit_set(*b))
         .map_or(0, |last| last + 1)
 }
 

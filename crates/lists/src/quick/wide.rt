@@ -7,6 +7,8 @@ ghost use Rattle.uleb128.specs.Unsigned.{u64};
 ghost use Rattle.lists.specs.InnerWord.{little, spread, each, low, top, mark, zeros, smalls, Below, Flags};
 ghost use Rattle.lists.specs.InnerWide.{Accepts, Found, Longest, Stores};
 
+use bits::{is_high_8_bit_set, take_low_7_bits};
+
 // The eight bytes at the front as one number, low byte first: one load.
 fn word(s: &[u8]) -> u64
     requires { 8 ≤ length s.now }
@@ -71,11 +73,11 @@ fn longest(w: u64, b: u8) -> (u64, usize)
     ensures { Longest (spread 8 w) b result.0 result.1 }
 {
     let sum = joined(w);
-    if b < 128 {
+    if !is_high_8_bit_set(b) {
         let part = 72057594037927936 * u64::from(b);
         return (sum + part, 9);
     }
-    let digit = u64::from(b % 128);
+    let digit = u64::from(take_low_7_bits(u64::from(b)));
     let part = 72057594037927936 * digit;
     (sum + part + 9223372036854775808, 10)
 }
@@ -96,9 +98,9 @@ fn two(w: u64) -> (u64, usize)
     requires { run (spread 8 w) ≡ 1 }
     ensures { Found (spread 8 w) result.0 result.1 }
 {
-    let lower = w % 128;
-    let upper = w / 256 % 128;
-    (lower + 128 * upper, 2)
+    let lower = u64::from(take_low_7_bits(w));
+    let upper = u64::from(take_low_7_bits(w / 256));
+    (128 * upper + lower, 2)
 }
 
 // The number at the front, and how many bytes it takes, where the block has ten from there on. Two bytes have a test of their own: without it a block
