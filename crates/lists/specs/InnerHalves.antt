@@ -1,8 +1,8 @@
 -- What filling a slice in two streams asks and promises.
 --
 --   Smalls s old r out             no number is taken, or r small ones are, of sixteen bytes stored
---   RestFits s at to n room        numbers are left from at to the place to, with room for them from the n-th on
---   RestStored s at to n old out   they are stored there, whichever they are, and all else is kept
+--   RestFits s at n                n numbers are left from the place at on
+--   RestStored s at out            out is those of the numbers from at on, whichever they are, that are as many
 --   Begun s mid half count vs us   vs stand before the start mid, half of them, and us behind it, up to count
 --   HalvesFit ..                   there are such numbers, and room for them
 --   HalvesStored ..                they are stored from the front on, whichever they are, and all else is kept
@@ -17,14 +17,15 @@ pub data Smalls (s old : List ℕ) : ℕ → List ℕ → Type 0 where
   none : Smalls s old 0 old
   some : {r : ℕ} {out : List ℕ} → Stores s old r out → Smalls s old r out
 
-pub record RestFits (s : List ℕ) (at to n room : ℕ) : Type 0 where
+pub record RestFits (s : List ℕ) (at n : ℕ) : Type 0 where
+  pub to : ℕ
   pub vs : List ℕ
   pub left : Left s to at vs
   pub within : to ≤ length s
-  pub enough : n + length vs ≤ room
+  pub many : length vs ≡ n
 
-abbrev pub RestStored : List ℕ → ℕ → ℕ → ℕ → List ℕ → List ℕ → Type 0
-RestStored s at to n old out = (vs : List ℕ) → Left s to at vs → out ≡ sets old n vs
+abbrev pub RestStored : List ℕ → ℕ → List ℕ → Type 0
+RestStored s at out = (to : ℕ) (vs : List ℕ) → Left s to at vs → length vs ≡ length out → out ≡ vs
 
 pub record Begun (s : List ℕ) (mid half count : ℕ) (vs us : List ℕ) : Type 0 where
   pub first : Left s mid 0 vs
@@ -48,4 +49,4 @@ pub record AllFit (s : List ℕ) (count room : ℕ) : Type 0 where
   pub enough : count ≤ room
 
 abbrev pub AllStored : List ℕ → List ℕ → List ℕ → Type 0
-AllStored s old out = RestStored s 0 (length s) 0 old out
+AllStored s old out = (vs : List ℕ) → Left s (length s) 0 vs → out ≡ sets old 0 vs

@@ -5,12 +5,13 @@
 --   front                  where bytes are left, a number stands there,
 --   front_read             and what is read is the first that is left
 --   none_left              at the end none is left
---   one_list               what is left is one list
+--   one_list, same_list    what is left up to a place is one list, and so is what is left as long as another
 use Prim.Native.Nat.{ℕ, ◌+◌, ◌≤◌, ◌<◌}
 use mathlib.Core.Path.{◌≡◌, refl, ap, sym, ◌∙◌, subst}
 use mathlib.Core.List.{List, [], ◌∷◌}
 use native.Mathlib.Omega.{arith}
 use lib.ListN.{length, drop}
+use Rattle.std.proofs.lemmas.List.{nil_from_length}
 use Rattle.words.specs.Answer.{Answer, gives}
 use Rattle.groups.specs.Width.{reading}
 use Rattle.groups.proofs.Stands.{reading_count}
@@ -53,3 +54,9 @@ one_list done k = sym (none_left k (omega arith))
 one_list {s} (one {at} {v} e l) k =
     let f = front_read k (omega (arith, left_within l, reading_count u64 (drop at s) e)) e in
     ap (λ (x : List ℕ). v ∷ x) (one_list l f.left) ∙ sym f.is
+
+pub same_list : {s : List ℕ} {to to' at : ℕ} {vs us : List ℕ} → Left s to at vs → Left s to' at us → length vs ≡ length us → vs ≡ us
+same_list {us = us} done k h = sym (nil_from_length us (sym h))
+same_list (one {v = v} e l) k h =
+    let f = front_read k (omega (arith, left_within k)) e in
+    ap (λ (x : List ℕ). v ∷ x) (same_list l f.left (omega (arith, ap length f.is))) ∙ sym f.is

@@ -2,6 +2,7 @@
 --
 --   Filling ..                  both streams are there, one behind the other; stored, what is left of them completes what was asked
 --   filling_begins              at first
+--   first_end, second_end       there is room for the numbers of both
 --   filling_ends                when the last few of both are stored, all is
 --   Turn k ..                   both streams have k numbers left or more, and so k bytes
 --   turn_begins                 where the loop goes on, 17
@@ -11,12 +12,13 @@
 --   ready_first, ready_second   each stream then has sixteen bytes and room for as many, the second also when the first has made its step
 --   turn_ends                   after both steps the loop holds what it held
 use Prim.Native.Nat.{ℕ, ◌+◌, ◌-◌, ◌≤◌, ◌<◌}
-use mathlib.Core.Path.{◌≡◌, refl, sym, ◌∙◌}
-use mathlib.Core.List.{List, []}
+use mathlib.Core.Path.{◌≡◌, refl, ap, ap₂, sym, ◌∙◌}
+use mathlib.Core.List.{List, [], append_assoc}
 use native.Mathlib.Nat.{zero-add}
 use native.Mathlib.Omega.{arith}
-use lib.ListN.{length, drop, set}
-use lib.Seq.{sets}
+use lib.ListN.{length, take, drop, set}
+use lib.Seq.{sets, sets-eq, length-sets, drop-drop}
+use borrow.Rule.Slice.PartMut.{put_mid}
 use Rattle.std.proofs.lemmas.List.{take_rest}
 use Rattle.words.specs.Answer.{gives}
 use Rattle.words.proofs.Lays.{sets_append}
@@ -55,6 +57,11 @@ filling_begins {s} {mid} {half} {count} old h =
           rw (← (one_list b.first c.first), ← (one_list b.second c.second)) (sym (rw e at (sets_append h.vs h.us old 0)));
     }
 
+-- a part in which others were stored
+put_sets : (k : ℕ) (l vs : List ℕ) {j : ℕ} → j ≡ length vs → k + length vs ≤ length l → put_mid k j l vs ≡ sets l k vs
+put_sets k l vs e h =
+    rw (e, drop-drop (length vs) k l) (sym (append_assoc (take k l) vs (drop (k + length vs) l))) ∙ sym (sets-eq vs l k h)
+
 module _ {s : List ℕ} {mid half count : ℕ} {old out : List ℕ} {at n at2 n2 : ℕ} (g : Filling s mid half count old out at n at2 n2) where
   first_stepped : {at' n' : ℕ} {out' : List ℕ} → Stepped s mid at g.first.vs out n at' n' out'
       → Filling s mid half count old out' at' n' at2 n2
@@ -84,9 +91,24 @@ module _ {s : List ℕ} {mid half count : ℕ} {old out : List ℕ} {at n at2 n2
         same = rw (stream_stored g.second f n g.first.vs (omega (arith, g.first.counts, g.over))) g.same;
       }
 
-  pub filling_ends : {out' out'' : List ℕ} → RestStored s at mid n out out' → RestStored s at2 (length s) n2 out' out''
-      → HalvesStored s mid half count old out''
-  filling_ends a b = rw (b g.second.vs g.second.left, a g.first.vs g.first.left) g.same
+  pub first_end : half ≤ length out
+  first_end = omega (arith, g.over, g.second.counts, g.enough, g.kept)
+
+  pub second_end : count ≤ length out
+  second_end = omega (arith, g.enough, g.kept)
+
+  pub filling_ends : {a b : List ℕ} → length a ≡ half - n → length b ≡ count - n2 → RestStored s at a → RestStored s at2 b
+      → HalvesStored s mid half count old (put_mid n2 (count - n2) (put_mid n (half - n) out a) b)
+  filling_ends {a} {b} la lb f h =
+      let first : a ≡ g.first.vs = f mid g.first.vs g.first.left (omega (arith, g.first.counts)) in
+      let second : b ≡ g.second.vs = h (length s) g.second.vs g.second.left (omega (arith, g.second.counts)) in
+      let one : put_mid n (half - n) out a ≡ sets out n g.first.vs =
+      ap (put_mid n (half - n) out) first ∙ put_sets n out g.first.vs (omega (arith, g.first.counts)) (omega (arith, g.first.counts, first_end)) in
+      let both : put_mid n2 (count - n2) (put_mid n (half - n) out a) b ≡ sets (sets out n g.first.vs) n2 g.second.vs =
+      ap₂ (put_mid n2 (count - n2)) one second
+      ∙ put_sets n2 (sets out n g.first.vs) g.second.vs (omega (arith, g.second.counts))
+      (rw (length-sets out n g.first.vs) (omega (arith, g.second.counts, second_end))) in
+      λ vs us c. both ∙ g.same vs us c
 
 pub record Turn (k : ℕ) (s : List ℕ) (mid half count : ℕ) (old out : List ℕ) (at n at2 n2 : ℕ) : Type 0 where
   pub filling : Filling s mid half count old out at n at2 n2

@@ -1,68 +1,64 @@
--- The numbers from a place to another, stored one by one: what the loop holds.
+-- The numbers from a place on, stored one by one: what the loop holds.
 --
---   Poured s from to start old out at n   the numbers left from at on fit from the n-th on; stored there, they complete what was asked
---   none_poured                           at first
---   OnePoured ..                          the number v of m bytes at the place at has room, and is one more when it is stored
---   one_poured                            so it is with a number that was read
---   not_refused                           no reading is refused
---   all_poured                            at the end, all is stored
-use Prim.Native.Nat.{ℕ, suc, ◌+◌, ◌≤◌, ◌<◌}
+--   Poured s from n out at i   of the n numbers from the place from on, the first i are those of out, and the others are left from at on
+--   none_poured                at first none are
+--   one_poured                 a number that was read is one more when it is stored
+--   not_refused                no reading is refused
+--   all_poured                 at the end all are
+use Prim.Native.Nat.{ℕ, ◌+◌, ◌-◌, ◌≤◌, ◌<◌}
 use mathlib.Core.Path.{◌≡◌, refl, ap, sym, ◌∙◌}
-use mathlib.Core.List.{List}
-use native.Mathlib.Numerals.{add-one}
+use mathlib.Core.List.{List, [], ◌∷◌, ◌++◌, append_assoc, append-nil}
+use native.Mathlib.Nat.{sub-zero}
 use native.Mathlib.Omega.{arith}
-use lib.ListN.{length, drop, set, length-set}
-use lib.Seq.{sets}
+use lib.ListN.{length, take, drop, set}
+use Rattle.std.proofs.lemmas.List.{nil_from_length, take_all, take_more_set}
 use Rattle.words.specs.Answer.{Answer, gives, refused, Why}
 use Rattle.words.proofs.Moved.{moved_gave}
 use Rattle.groups.specs.Width.{reading, read}
 use Rattle.groups.proofs.Rows.{read_from}
 use Rattle.uleb128.specs.Unsigned.{u64}
+use Rattle.lists.specs.InnerLeft.{Left}
 use Rattle.lists.specs.InnerHalves.{RestFits, RestStored}
-use Rattle.lists.proofs.quick.Front.{left_within, front, front_read, none_left, one_list}
+use Rattle.lists.proofs.quick.Front.{left_within, front, front_read, same_list}
 
-pub record Poured (s : List ℕ) (from to start : ℕ) (old out : List ℕ) (at n : ℕ) : Type 0 where
-  pub fits : RestFits s at to n (length out)
-  pub kept : length out ≡ length old
-  pub same : RestStored s from to start old (sets out n fits.vs)
+pub record Poured (s : List ℕ) (from n : ℕ) (out : List ℕ) (at i : ℕ) : Type 0 where
+  pub fits : RestFits s at (n - i)
+  pub same : (to : ℕ) (vs : List ℕ) → Left s to from vs → length vs ≡ n → vs ≡ take i out ++ fits.vs
 
-pub none_poured : {s : List ℕ} {from to start : ℕ} (old : List ℕ) → RestFits s from to start (length old) → Poured s from to start old old from start
-none_poured {start = start} old f = record { fits = f; kept = refl; same = λ vs l. ap (sets old start) (one_list f.left l) }
+pub none_poured : {s : List ℕ} {from n : ℕ} (out : List ℕ) → RestFits s from n → Poured s from n out from 0
+none_poured {n = n} out f = record {
+  fits = record { to = f.to; vs = f.vs; left = f.left; within = f.within; many = f.many ∙ sym (sub-zero n) };
+  same = λ to vs l e. same_list l f.left (omega (arith, f.many));
+}
 
-pub record OnePoured (s : List ℕ) (from to start : ℕ) (old out : List ℕ) (at n v m : ℕ) : Type 0 where
-  pub room : n < length out
-  pub some : 0 < m
-  pub within : at + m ≤ to
-  pub poured : Poured s from to start old (set out n v) (at + m) (n + 1)
+module _ {s : List ℕ} {from n : ℕ} {out : List ℕ} {at i : ℕ} (g : Poured s from n out at i) where
+  pub all_poured : length out ≡ n → n ≤ i → RestStored s from out
+  all_poured h l =
+      let none : g.fits.vs ≡ [] = nil_from_length g.fits.vs (omega (arith, g.fits.many)) in
+      λ to vs k e. sym (g.same to vs k (e ∙ h) ∙ rw (none, take_all i out (omega arith)) (append-nil out))
 
-module _ {s : List ℕ} {from to start : ℕ} {old out : List ℕ} {at n : ℕ} (g : Poured s from to start old out at n) where
-  pub all_poured : to ≤ at → RestStored s from to start old out
-  all_poured h = rw (none_left g.fits.left h) at g.same
+  module _ (here : i < n) where
+    some_there : at < g.fits.to
+    some_there = omega (arith, left_within g.fits.left, g.fits.many)
 
-  module _ (here : at < to) where
     inside : at ≤ length s
-    inside = omega (arith, g.fits.within)
+    inside = omega (arith, some_there, g.fits.within)
 
     pub not_refused : {X : Type 0} {k : Why} → refused k ≡ read u64 s at → X
     not_refused {k = k} q =
-        let f = front g.fits.left here in
+        let f = front g.fits.left some_there in
         let r : ◌≡◌ {A = Answer (ℕ × ℕ)} (refused k) (gives (f.0, f.1)) = q ∙ read_from u64 s at inside f.2 in
         let z : ◌≡◌ {A = ℕ} 0 1 = cc in absurd (omega arith)
 
-    pub one_poured : {v m : ℕ} → gives (v, m) ≡ read u64 s at → OnePoured s from to start old out at n v m
-    one_poured {v} {m} q =
+    pub one_poured : {v m : ℕ} → gives (v, m) ≡ read u64 s at → i < length out → (at + m ≤ length s) × Poured s from n (set out i v) (at + m) (i + 1)
+    one_poured {v} {m} q room =
         let e : reading u64 (drop at s) ≡ gives (v, m) = moved_gave at (reading u64 (drop at s)) (sym (read_from u64 s at inside refl) ∙ sym q) in
-        let f = front_read g.fits.left here e in
-        let c : length g.fits.vs ≡ suc (length f.rest) = ap length f.is in
-        let k : length (set out n v) ≡ length out = length-set out n v in
-        let p = g.fits in
-        record {
-          room = omega arith;
-          some = f.some;
-          within = omega (arith, left_within f.left);
-          poured = record {
-            fits = record { vs = f.rest; left = f.left; within = p.within; enough = omega arith };
-            kept = k ∙ g.kept;
-            same = rw (add-one n) (rw f.is at g.same);
-          };
-        }
+        let f = front_read g.fits.left some_there e in
+        let p = g.fits in (
+          omega (arith, left_within f.left, p.within),
+          record {
+            fits = record { to = p.to; vs = f.rest; left = f.left; within = p.within; many = omega (arith, ap length f.is, p.many) };
+            same = λ to vs l k. g.same to vs l k ∙ ap (λ (x : List ℕ). take i out ++ x) f.is
+                ∙ rw (take_more_set out i v room) (sym (append_assoc (take i out) (v ∷ []) f.rest));
+          },
+        )

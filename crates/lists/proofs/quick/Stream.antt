@@ -9,7 +9,7 @@
 --   stream_counts, stream_on   after a step the stream is there still, further on, and ends where it did;
 --   stream_kept                the slice is as long as it was;
 --   stream_stored              and what is left, stored behind other numbers us, makes of the slice what it would have made before
-use Prim.Native.Nat.{ℕ, ◌+◌, ◌≤◌, ◌<◌}
+use Prim.Native.Nat.{ℕ, ◌+◌, ◌-◌, ◌≤◌, ◌<◌}
 use mathlib.Core.Path.{◌≡◌, ap, ◌∙◌}
 use mathlib.Core.List.{List, ◌++◌}
 use native.Mathlib.Omega.{arith}
@@ -35,8 +35,8 @@ module _ {s : List ℕ} {to end at n : ℕ} (a : Stream s to end at n) where
   pub stream_inside : at + length a.vs ≤ to
   stream_inside = left_within a.left
 
-  pub stream_rest : {room : ℕ} → end ≤ room → RestFits s at to n room
-  stream_rest r = record { vs = a.vs; left = a.left; within = a.within; enough = omega (arith, a.counts) }
+  pub stream_rest : {room : ℕ} → room ≡ end - n → RestFits s at room
+  stream_rest r = record { to = to; vs = a.vs; left = a.left; within = a.within; many = omega (arith, a.counts) }
 
   pub stream_accepts : n + 10 ≤ end → Accepts (drop at s)
   stream_accepts m =

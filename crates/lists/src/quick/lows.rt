@@ -2,6 +2,8 @@
 ghost use Rattle.std.specs.Prelude.{◌≡◌, ◌≤◌, length, count_by};
 ghost use Rattle.lists.specs.InnerLeft.{ends};
 
+use bits::is_high_8_bit_set;
+
 // How many of at most 128, counted in a byte, so that LLVM counts sixteen at once.
 fn few(part: &[u8]) -> u8
     requires { length part.now ≤ 128 }
@@ -9,7 +11,7 @@ fn few(part: &[u8]) -> u8
 {
     let mut count = 0;
     for b in part {
-        if *b < 128 {
+        if !is_high_8_bit_set(*b) {
             count += 1;
         }
     }

@@ -3,6 +3,8 @@
 ghost use Rattle.std.specs.Prelude.{◌≡◌, true, ◌+◌, ◌≤◌, ◌<◌, length};
 ghost use Rattle.lists.specs.InnerSound.{High9, Unmarked, UnmarkedEarly, Clean};
 
+use bits::is_high_8_bit_set;
+
 // Marked if the byte is above 1. A comparison and a choice of two numbers is one operation on sixteen bytes.
 fn over(b: u8) -> u8
     ensures { 1 < b → 128 ≤ result }
@@ -68,5 +70,5 @@ pub(crate) fn clean(s: &[u8]) -> bool
     let Some(last) = s.last() else {
         return true;
     };
-    *last < 128 && (later(s) | early(s)) < 128
+    !is_high_8_bit_set(*last) && !is_high_8_bit_set(later(s) | early(s))
 }

@@ -100,7 +100,8 @@ fn two(w: u64) -> (u64, usize)
 {
     let lower = u64::from(take_low_7_bits(w));
     let upper = u64::from(take_low_7_bits(w / 256));
-    (128 * upper + lower, 2)
+    let part = 128 * upper;
+    (lower + part, 2)
 }
 
 // The number at the front, and how many bytes it takes, where the block has ten from there on. Two bytes have a test of their own: without it a block

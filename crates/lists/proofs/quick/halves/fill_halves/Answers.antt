@@ -1,8 +1,9 @@
 -- `lists::fill_halves` keeps what it promises inside the crate: the loop holds `Filling`, and each part of a turn is a law of `HalvesLoop`.
-use Rattle.std.proofs.Common.{arith, rules, ◌≤◌, ◌+◌, length}
+use Rattle.std.proofs.Common.{arith, rules, ◌-◌, ◌∙◌}
+use borrow.Rule.Slice.PartMut.{mid_len, same_len_mid}
 use Rattle.lists.proofs.quick.Stream.{stream_rest}
 use Rattle.lists.proofs.quick.Steps.{rest_long, step_small}
-use Rattle.lists.proofs.quick.HalvesLoop.{filling_begins, filling_ends, accepts_first, accepts_second, first_inside, second_inside, turn_stored, ready_first, ready_second, turn_ends}
+use Rattle.lists.proofs.quick.HalvesLoop.{filling_begins, first_end, second_end, filling_ends, accepts_first, accepts_second, first_inside, second_inside, turn_stored, ready_first, ready_second, turn_ends}
 use Rattle.lists.proofs.quick.halves.fill_halves.Goals as goal
 
 pub loop-n-init : goal.loop-n-init
@@ -65,10 +66,17 @@ loop-n-preserved c =
     turn_ends t a b
 
 pub rest-requires : goal.rest-requires
-rest-requires c = let f = c.loop-n.invariant in stream_rest f.first (omega arith)
+rest-requires c = let f = c.loop-n.invariant in stream_rest f.first (mid_len _ _ c.loop-n.numbers (first_end f))
 
 pub rest-requires-2 : goal.rest-requires-2
-rest-requires-2 c = let f = c.loop-n.invariant in stream_rest f.second (omega arith)
+rest-requires-2 c =
+    let f = c.loop-n.invariant in
+    let e = same_len_mid c.loop-n.n (c.args.half - c.loop-n.n) c.loop-n.numbers c.rest.new.numbers c.rest.auto.numbers in
+    stream_rest f.second (mid_len _ _ _ (omega (arith, second_end f, e)))
 
 pub returns : goal.returns
-returns c = filling_ends c.loop-n.invariant c.rest.ensures c.rest-2.ensures
+returns c =
+    let f = c.loop-n.invariant in
+    let e = same_len_mid c.loop-n.n (c.args.half - c.loop-n.n) c.loop-n.numbers c.rest.new.numbers c.rest.auto.numbers in
+    filling_ends f (c.rest.auto.numbers ∙ mid_len _ _ c.loop-n.numbers (first_end f)) (c.rest-2.auto.numbers ∙ mid_len _ _ _ (omega (arith, second_end f, e)))
+    c.rest.ensures c.rest-2.ensures

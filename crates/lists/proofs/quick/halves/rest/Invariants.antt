@@ -1,10 +1,7 @@
--- `lists::rest` keeps what it promises inside the crate: the loop holds `Poured`.
-use Rattle.std.proofs.Common.{◌-◌}
+-- `rest` keeps what it promises inside the crate: the loop holds `Poured`.
+use Rattle.std.proofs.Common.{length}
 use Rattle.lists.proofs.quick.RestLoop.{Poured}
 use Rattle.lists.proofs.quick.halves.rest.Given as goal
 
-abbrev pub invariant-loop-at : goal.invariant-loop-at
-invariant-loop-at l = Poured l.s l.from l.to l.start l.fn.numbers l.numbers l.at l.n
-
-abbrev pub decreases-loop-at : goal.decreases-loop-at
-decreases-loop-at l = l.to - l.at
+abbrev pub invariant-loop-number : goal.invariant-loop-number
+invariant-loop-number l = Poured l.s l.from (length l.fn.numbers) l.number-items l.at l.number-index

@@ -1,8 +1,12 @@
 -- `lists::clean` keeps what it promises inside the crate: a law of `Marks`.
-use Rattle.std.proofs.Common.{arith}
-use Rattle.std.proofs.lemmas.Bool.{ltb-true}
+use Rattle.std.proofs.Common.{arith, ap, not}
+use Rattle.bits.proofs.HighBit.{bit_clear}
 use Rattle.lists.proofs.quick.Marks.{none_marked}
 use Rattle.lists.proofs.quick.sound.clean.Goals as goal
 
-pub returns-then-last-lt128 : goal.returns-then-last-lt128
-returns-then-last-lt128 c = let h = c.in-Some.ensures.item in λ low. none_marked c.later.ensures c.early.ensures (omega (arith, h.3.1 0)) (ltb-true _ _ low)
+pub returns-then-not-is_high_8_bit_set : goal.returns-then-not-is_high_8_bit_set
+returns-then-not-is_high_8_bit_set c = λ low.
+    let h = c.in-Some.ensures.item in
+    none_marked c.later.ensures c.early.ensures
+    (omega (arith, h.3.1 0, bit_clear c.is_high_8_bit_set.ensures (ap not c.if-not-is_high_8_bit_set.true)))
+    (bit_clear c.is_high_8_bit_set-then-not-is_high_8_bit_set.ensures low)

@@ -6,8 +6,8 @@ use Rattle.lists.proofs.quick.wide.longest.Goals as goal
 pub overflow_add-result : goal.overflow_add-result
 overflow_add-result c = let l : c.joined-sum.result < 128 ^ 8 = rw c.joined-sum.ensures (digits_eight c.args.w) in omega arith
 
-pub returns-then-b-lt128 : goal.returns-then-b-lt128
-returns-then-b-lt128 c = longest_nine _ c.joined-sum.ensures (search rules) c.from-part.ensures
+pub returns-then-not-is_high_8_bit_set : goal.returns-then-not-is_high_8_bit_set
+returns-then-not-is_high_8_bit_set c = longest_nine _ c.joined-sum.ensures (search rules) c.from-part.ensures
 
 pub overflow_add-result-2 : goal.overflow_add-result-2
 overflow_add-result-2 c = let l : c.joined-sum.result < 128 ^ 8 = rw c.joined-sum.ensures (digits_eight c.args.w) in omega arith
