@@ -3,6 +3,11 @@ use entries::Entry;
 use slips::{Range, Setting};
 use std::alloc::{AllocError, Global};
 
+// The bit of a float's sign, and an infinity's bits without it: what is above them is a not-a-number.
+const SIGN: u32 = 0x8000_0000;
+
+const INFINITY: u32 = 0x7f80_0000;
+
 fn take_u64(bytes: &mut [u8]) -> Option<(u64, &mut [u8])> {
     let (front, behind) = bytes.split_first_chunk_mut()?;
     Some((u64::from_le_bytes(*front), behind))
@@ -12,8 +17,12 @@ fn take_u64(bytes: &mut [u8]) -> Option<(u64, &mut [u8])> {
 fn take_float(bytes: &mut [u8]) -> Option<(f32, &mut [u8])> {
     let (front, behind) = bytes.split_first_chunk_mut()?;
     let bits = u32::from_le_bytes(*front);
-    let is_number = bits & 0x7fff_ffff <= 0x7f80_0000;
-    let float = if is_number { f32::from_bits(bits) } else { f32::NAN };
+    let is_nan = INFINITY < bits % SIGN;
+    let float = if is_nan {
+        f32::NAN
+    } else {
+        f32::from_bits(bits)
+    };
     Some((float, behind))
 }
 
@@ -35,7 +44,10 @@ pub(crate) fn take_numbers(
         return Ok(None);
     };
     let (chunks, _) = front.as_chunks();
-    let numbers = chunks.iter().map(|chunk| u64::from_le_bytes(*chunk)).collect(alloc)?;
+    let numbers = chunks
+        .iter()
+        .map(|chunk| u64::from_le_bytes(*chunk))
+        .collect(alloc)?;
     Ok(Some((numbers, behind)))
 }
 
@@ -79,5 +91,12 @@ pub(crate) fn take_entry(bytes: &mut [u8]) -> Option<(Entry, &mut [u8])> {
     let (_, behind) = take_u64(behind)?;
     let (turn, behind) = take_u64(behind)?;
     let turn = turn.cast_signed();
-    Some((Entry { segment, sentence, turn }, behind))
+    Some((
+        Entry {
+            segment,
+            sentence,
+            turn,
+        },
+        behind,
+    ))
 }

@@ -23,7 +23,10 @@ fn read_array<R: Read, const N: usize>(input: &mut R) -> io::Result<[u8; N]> {
 
 // The next frame, whose n bytes go into the buffer; none where the input has ended. A frame that is cut short, or whose n is too
 // large for the buffer, is an error.
-pub(crate) fn next_frame<'a, R: BufRead>(input: &mut R, buffer: &'a mut [u8]) -> io::Result<Option<Frame<'a>>> {
+pub(crate) fn next_frame<'a, R: BufRead>(
+    input: &mut R,
+    buffer: &'a mut [u8],
+) -> io::Result<Option<Frame<'a>>> {
     if input.fill_buf().unwrap_or(&[]).is_empty() {
         return Ok(None);
     }

@@ -49,7 +49,12 @@ fn write_entry(bytes: &mut [u8], place: Place) -> Option<Wrote<'_>> {
     Some(Wrote(entries::write_entry(entry, lent, place), lent))
 }
 
-fn write_list(alloc: Global, count: u64, bytes: &mut [u8], place: Place) -> Result<Option<Wrote<'_>>, AllocError> {
+fn write_list(
+    alloc: Global,
+    count: u64,
+    bytes: &mut [u8],
+    place: Place,
+) -> Result<Option<Wrote<'_>>, AllocError> {
     let Some((numbers, lent)) = bytes::take_numbers(alloc, count, bytes)? else {
         return Ok(None);
     };
@@ -66,7 +71,11 @@ fn unfilled(alloc: Global, count: u64) -> Result<Option<Vec<u64>>, AllocError> {
     Ok(Some(slice))
 }
 
-fn read_strict(alloc: Global, room: u64, block: &[u8]) -> Result<Option<Filled<NotRead>>, AllocError> {
+fn read_strict(
+    alloc: Global,
+    room: u64,
+    block: &[u8],
+) -> Result<Option<Filled<NotRead>>, AllocError> {
     let Some(mut slice) = unfilled(alloc, room)? else {
         return Ok(None);
     };
@@ -74,7 +83,12 @@ fn read_strict(alloc: Global, room: u64, block: &[u8]) -> Result<Option<Filled<N
     Ok(Some(Filled(answer, slice)))
 }
 
-fn read_phrase(alloc: Global, room: u64, count: u64, bytes: &mut [u8]) -> Result<Option<Filled<Refusal>>, AllocError> {
+fn read_phrase(
+    alloc: Global,
+    room: u64,
+    count: u64,
+    bytes: &mut [u8],
+) -> Result<Option<Filled<Refusal>>, AllocError> {
     let Some(mut slice) = unfilled(alloc, room)? else {
         return Ok(None);
     };
@@ -86,7 +100,12 @@ fn read_phrase(alloc: Global, room: u64, count: u64, bytes: &mut [u8]) -> Result
 }
 
 // Writes the line for a frame.
-pub(crate) fn answer<W: Write>(alloc: Global, frame: Frame<'_>, text: &mut [u8; TEXT_ROOM], out: &mut W) -> io::Result<()> {
+pub(crate) fn answer<W: Write>(
+    alloc: Global,
+    frame: Frame<'_>,
+    text: &mut [u8; TEXT_ROOM],
+    out: &mut W,
+) -> io::Result<()> {
     let Frame { op, a, b, bytes } = frame;
     let first = Place(a as usize);
     let second = Place(b as usize);
@@ -113,7 +132,9 @@ pub(crate) fn answer<W: Write>(alloc: Global, frame: Frame<'_>, text: &mut [u8; 
             let Count(n) = listing::lay_listing(bytes, text);
             Listing(&text[..n]).say(out)?;
         }
-        19 => slips::read_setting(bytes, first).map(|(setting, n)| Slip(setting, n)).say(out)?,
+        19 => slips::read_setting(bytes, first)
+            .map(|(setting, n)| Slip(setting, n))
+            .say(out)?,
         20 => write_setting(a, bytes, second).say(out)?,
         21 => lies_in_range(bytes).say(out)?,
         22 => read_phrase(alloc, a, b, bytes)?.say(out)?,

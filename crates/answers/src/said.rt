@@ -5,10 +5,9 @@ use entries::{Entry, ReadEntry};
 use groups::Value;
 use lists::{NotRead, Numbers};
 use slips::{Range, Setting};
-use std::fmt;
 use std::fmt::Display;
-use std::io;
 use std::io::Write;
+use std::{fmt, io};
 use turns::Turn;
 use words::{Count, Fault, Place, Refusal, number};
 
@@ -92,10 +91,25 @@ impl<V: Display + Drop> Say for (V, Count) {
 impl Say for Step {
     fn say<W: Write>(self, out: &mut W) -> io::Result<()> {
         match self {
-            Step::Number(Value::Unsigned(v), n, next) => write!(out, "number {v} {} {}", n.0, next.place.0),
-            Step::Number(Value::Signed(v), n, next) => write!(out, "number {v} {} {}", n.0, next.place.0),
+            Step::Number(Value::Unsigned(v), n, next) => write!(
+                out,
+                "number {v} {} {}",
+                n.0, next.place.0
+            ),
+            Step::Number(Value::Signed(v), n, next) => write!(
+                out,
+                "number {v} {} {}",
+                n.0, next.place.0
+            ),
             Step::Gap(Fault(reason, place), n, next) => {
-                write!(out, "gap {} {} {} {}", number(reason), n.0, next.place.0, place.0)
+                write!(
+                    out,
+                    "gap {} {} {} {}",
+                    number(reason),
+                    n.0,
+                    next.place.0,
+                    place.0
+                )
             }
             Step::Tail(n, next) => write!(out, "tail {} {}", n.0, next.place.0),
             Step::Finished(next) => write!(out, "finished {}", next.place.0),
@@ -117,7 +131,11 @@ impl Say for ReadEntry {
     fn say<W: Write>(self, out: &mut W) -> io::Result<()> {
         match self {
             ReadEntry::Good(entry, Place(end)) => {
-                let Entry { segment, sentence, turn } = entry;
+                let Entry {
+                    segment,
+                    sentence,
+                    turn,
+                } = entry;
                 write!(out, "entry {segment} {sentence} {turn} {end}")
             }
             ReadEntry::Bad(refusal, end) => Fault(refusal, end).say(out),
@@ -136,7 +154,12 @@ impl Say for Slip {
             Setting::Nothing => write!(out, "nothing {n}"),
             Setting::Torque(torque) => write!(out, "torque {} {n}", bits_of(torque)),
             Setting::Angle(angle) => write!(out, "angle {} {n}", bits_of(angle)),
-            Setting::Range(Range { lowest, highest }) => write!(out, "range {} {} {n}", bits_of(lowest), bits_of(highest)),
+            Setting::Range(Range { lowest, highest }) => write!(
+                out,
+                "range {} {} {n}",
+                bits_of(lowest),
+                bits_of(highest)
+            ),
         }
     }
 }
