@@ -1,8 +1,8 @@
-// The ops: what each asks of the desk, and the line that says what the desk answered. Any other op is unknown, and so is one
-// that does not take the numbers of its frame.
-use crate::bytes;
+// The ops: what each asks of the desk, and what the desk answered. Any other op is unknown, and so is one that does not take the
+// numbers of its frame.
 use crate::frames::Frame;
-use crate::said::{Filled, Listing, Say, Slip, Wrote};
+use crate::fronts::{numbers, take_entry, take_listed, take_setting, torque_and_range};
+use crate::said::{Filled, Hex, Say, Slip, Wrote};
 use blocks::{Cursor, Rule};
 use listing::TEXT_ROOM;
 use lists::NotRead;
@@ -18,129 +18,125 @@ const MOST_NUMBERS: u64 = 65536;
 // What each number of an answer slice is before it is filled.
 const UNFILLED: u64 = 7777777777777777777;
 
-fn length_u32(a: u64) -> Option<Count> {
-    let v = u32::try_from(a).ok()?;
+fn length_u32(v: u64) -> Option<Count> {
+    let v = u32::try_from(v).ok()?;
     Some(uleb128::length_u32(v))
 }
 
-// A thread code is a byte.
-fn turn(a: u64, b: u64) -> Option<Result<Turn, Refusal>> {
-    let thread = u8::try_from(b).ok()?;
-    Some(turns::means(a.cast_signed(), thread))
+fn turn(quarters: u64, thread: u64) -> Option<Result<Turn, Refusal>> {
+    let thread = u8::try_from(thread).ok()?;
+    Some(turns::means(quarters.cast_signed(), thread))
 }
 
 fn lies_in_range(bytes: &mut [u8]) -> Option<bool> {
-    let (torque, range) = bytes::torque_and_range(bytes)?;
+    let (torque, range) = torque_and_range(bytes)?;
     Some(slips::lies_in_range(torque, range))
 }
 
-fn write_u32(a: u64, lent: &mut [u8], place: Place) -> Option<Wrote<'_>> {
-    let v = u32::try_from(a).ok()?;
+fn write_u32(v: u64, lent: &mut [u8], place: Place) -> Option<Wrote<'_>> {
+    let v = u32::try_from(v).ok()?;
     Some(Wrote(uleb128::write_u32(v, lent, place), lent))
 }
 
 fn write_setting(kind: u64, bytes: &mut [u8], place: Place) -> Option<Wrote<'_>> {
-    let (setting, lent) = bytes::take_setting(kind, bytes)?;
+    let (setting, lent) = take_setting(kind, bytes)?;
     Some(Wrote(slips::write_setting(setting, lent, place), lent))
 }
 
 fn write_entry(bytes: &mut [u8], place: Place) -> Option<Wrote<'_>> {
-    let (entry, lent) = bytes::take_entry(bytes)?;
+    let (entry, lent) = take_entry(bytes)?;
     Some(Wrote(entries::write_entry(entry, lent, place), lent))
 }
 
+// Of so many numbers, which stand in front of the bytes that are lent.
 fn write_list(
     alloc: Global,
     count: u64,
     bytes: &mut [u8],
     place: Place,
 ) -> Result<Option<Wrote<'_>>, AllocError> {
-    let Some((numbers, lent)) = bytes::take_numbers(alloc, count, bytes)? else {
+    let Some((listed, lent)) = take_listed(count, bytes) else {
         return Ok(None);
     };
+    let numbers = numbers(alloc, listed)?;
     let answer = lists::write_list(&numbers, lent, place);
     Ok(Some(Wrote(answer, lent)))
 }
 
-// An answer slice of so many numbers, or none if there are too many.
-fn unfilled(alloc: Global, count: u64) -> Result<Option<Vec<u64>>, AllocError> {
-    if MOST_NUMBERS < count {
-        return Ok(None);
-    }
-    let slice = vec![in alloc; UNFILLED; count as usize]?;
-    Ok(Some(slice))
-}
-
+// Into an answer slice of so many numbers.
 fn read_strict(
     alloc: Global,
     room: u64,
     block: &[u8],
 ) -> Result<Option<Filled<NotRead>>, AllocError> {
-    let Some(mut slice) = unfilled(alloc, room)? else {
+    if MOST_NUMBERS < room {
         return Ok(None);
-    };
+    }
+    let mut slice = vec![in alloc; UNFILLED; room as usize]?;
     let answer = lists::read_strict(block, &mut slice);
     Ok(Some(Filled(answer, slice)))
 }
 
+// Of so many numbers, which stand in front of the bytes, into an answer slice.
 fn read_phrase(
     alloc: Global,
     room: u64,
     count: u64,
     bytes: &mut [u8],
 ) -> Result<Option<Filled<Refusal>>, AllocError> {
-    let Some(mut slice) = unfilled(alloc, room)? else {
+    if MOST_NUMBERS < room {
+        return Ok(None);
+    }
+    let Some((listed, _)) = take_listed(count, bytes) else {
         return Ok(None);
     };
-    let Some((numbers, _)) = bytes::take_numbers(alloc, count, bytes)? else {
-        return Ok(None);
-    };
+    let numbers = numbers(alloc, listed)?;
+    let mut slice = vec![in alloc; UNFILLED; room as usize]?;
     let answer = phrases::read_phrase(&numbers, &mut slice);
     Ok(Some(Filled(answer, slice)))
 }
 
-// Writes the line for a frame.
-pub(crate) fn answer<W: Write>(
+// Writes the line for a frame, without its end. The text of a listing goes by way of a buffer.
+pub(crate) fn answer(
     alloc: Global,
     frame: Frame<'_>,
     text: &mut [u8; TEXT_ROOM],
-    out: &mut W,
+    out: &mut impl Write,
 ) -> io::Result<()> {
     let Frame { op, a, b, bytes } = frame;
-    let first = Place(a as usize);
-    let second = Place(b as usize);
-    let cursor = Cursor { place: first };
+    let at_a = Place(a as usize);
+    let at_b = Place(b as usize);
+    let cursor = Cursor { place: at_a };
     match op {
-        1 => uleb128::read_u64(bytes, first).say(out)?,
-        2 => uleb128_rec::read_u64_rec(bytes, first).say(out)?,
-        3 => uleb128::read_u32(bytes, first).say(out)?,
-        4 => sleb128::read_i64(bytes, first).say(out)?,
-        5 => Wrote(uleb128::write_u64(a, bytes, second), bytes).say(out)?,
-        6 => Wrote(uleb128_rec::write_u64_rec(a, bytes, second), bytes).say(out)?,
-        7 => write_u32(a, bytes, second).say(out)?,
-        8 => Wrote(sleb128::write_i64(a.cast_signed(), bytes, second), bytes).say(out)?,
-        9 => uleb128::length_u64(a).say(out)?,
-        10 => length_u32(a).say(out)?,
-        11 => sleb128::length_i64(a.cast_signed()).say(out)?,
-        12 => cursor.step(bytes, Rule::Unsigned).say(out)?,
-        13 => cursor.step(bytes, Rule::Signed).say(out)?,
-        14 => blocks::set_down(bytes, first).say(out)?,
-        15 => read_strict(alloc, a, bytes)?.say(out)?,
-        16 => write_list(alloc, b, bytes, first)?.say(out)?,
-        17 => turn(a, b).say(out)?,
+        1 => uleb128::read_u64(bytes, at_a).say(out),
+        2 => uleb128_rec::read_u64_rec(bytes, at_a).say(out),
+        3 => uleb128::read_u32(bytes, at_a).say(out),
+        4 => sleb128::read_i64(bytes, at_a).say(out),
+        5 => Wrote(uleb128::write_u64(a, bytes, at_b), bytes).say(out),
+        6 => Wrote(uleb128_rec::write_u64_rec(a, bytes, at_b), bytes).say(out),
+        7 => write_u32(a, bytes, at_b).say(out),
+        8 => Wrote(sleb128::write_i64(a.cast_signed(), bytes, at_b), bytes).say(out),
+        9 => uleb128::length_u64(a).say(out),
+        10 => length_u32(a).say(out),
+        11 => sleb128::length_i64(a.cast_signed()).say(out),
+        12 => cursor.step(bytes, Rule::Unsigned).say(out),
+        13 => cursor.step(bytes, Rule::Signed).say(out),
+        14 => blocks::set_down(bytes, at_a).say(out),
+        15 => read_strict(alloc, a, bytes)?.say(out),
+        16 => write_list(alloc, b, bytes, at_a)?.say(out),
+        17 => turn(a, b).say(out),
         18 => {
             let Count(n) = listing::lay_listing(bytes, text);
-            Listing(&text[..n]).say(out)?;
+            write!(out, "text {}", Hex(&text[..n]))
         }
-        19 => slips::read_setting(bytes, first)
-            .map(|(setting, n)| Slip(setting, n))
-            .say(out)?,
-        20 => write_setting(a, bytes, second).say(out)?,
-        21 => lies_in_range(bytes).say(out)?,
-        22 => read_phrase(alloc, a, b, bytes)?.say(out)?,
-        23 => entries::read_entry(bytes, first).say(out)?,
-        24 => write_entry(bytes, first).say(out)?,
-        _ => write!(out, "unknown")?,
+        19 => slips::read_setting(bytes, at_a)
+            .map(|(setting, count)| Slip(setting, count))
+            .say(out),
+        20 => write_setting(a, bytes, at_b).say(out),
+        21 => lies_in_range(bytes).say(out),
+        22 => read_phrase(alloc, a, b, bytes)?.say(out),
+        23 => entries::read_entry(bytes, at_a).say(out),
+        24 => write_entry(bytes, at_a).say(out),
+        _ => write!(out, "unknown"),
     }
-    writeln!(out)
 }
