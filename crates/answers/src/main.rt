@@ -10,24 +10,28 @@ mod said;
 use frames::MOST_BYTES;
 use listing::TEXT_ROOM;
 use std::io;
-use std::io::{BufReader, ErrorKind, LineWriter, Write};
+use std::io::{BufReader, BufWriter, ErrorKind, Write};
 
 // A proved loop has to end, and nothing says that the input does. So 2^64 - 1 frames are answered at most: no input has so many.
 fn answer_all(rt: HostRuntime) -> io::Result<()> {
     let alloc = rt.alloc();
     let mut input = BufReader::new(alloc, rt.stdin())?;
-    let mut out = LineWriter::new(alloc, io::writer(&rt))?;
+    let mut out = BufWriter::new(alloc, io::writer(&rt))?;
     let mut buffer = vec![in alloc; 0; MOST_BYTES]?;
     let mut text = [0; TEXT_ROOM];
     for _ in 0..u64::MAX {
         match frames::next_frame(&mut input, &mut buffer) {
             Ok(Some(frame)) => ops::answer(alloc, frame, &mut text, &mut out)?,
             Ok(None) => break,
-            Err(_) => return writeln!(out, "cut"),
+            Err(_) => {
+                writeln!(out, "cut")?;
+                break;
+            }
         }
         writeln!(out)?;
+        out.flush()?;
     }
-    Ok(())
+    out.flush()
 }
 
 // Output that fails ends the run without a word.
