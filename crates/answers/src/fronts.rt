@@ -1,4 +1,4 @@
-// What stands in front of a frame's bytes, low byte first. Each is answered with the bytes behind it, or there are too few bytes for it.
+// What stands in front of a frame's bytes, low byte first. Each comes with the bytes behind it, or there are too few for it.
 use crate::floats::float_of;
 use entries::Entry;
 use slips::{Range, Setting};
@@ -68,7 +68,7 @@ pub(crate) fn take_listed(count: u64, bytes: &mut [u8]) -> Option<(&mut [u8], &m
 }
 
 // The numbers that have these bytes.
-pub(crate) fn numbers(alloc: Global, listed: &[u8]) -> Result<Vec<u64>, AllocError> {
+pub(crate) fn numbers_of(alloc: Global, listed: &[u8]) -> Result<Vec<u64>, AllocError> {
     let (chunks, _) = listed.as_chunks();
     chunks
         .iter()

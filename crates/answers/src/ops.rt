@@ -1,7 +1,7 @@
 // The ops: what each asks of the desk, and what the desk answered. Any other op is unknown, and so is one that does not take the
 // numbers of its frame.
 use crate::frames::Frame;
-use crate::fronts::{numbers, take_entry, take_listed, take_setting, torque_and_range};
+use crate::fronts::{numbers_of, take_entry, take_listed, take_setting, torque_and_range};
 use crate::said::{Filled, Hex, Say, Slip, Wrote};
 use blocks::{Cursor, Rule};
 use listing::TEXT_ROOM;
@@ -48,7 +48,7 @@ fn write_entry(bytes: &mut [u8], place: Place) -> Option<Wrote<'_>> {
     Some(Wrote(entries::write_entry(entry, lent, place), lent))
 }
 
-// Of so many numbers, which stand in front of the bytes that are lent.
+// Writes a list of so many numbers, which stand in front of the bytes that are lent.
 fn write_list(
     alloc: Global,
     count: u64,
@@ -58,12 +58,12 @@ fn write_list(
     let Some((listed, lent)) = take_listed(count, bytes) else {
         return Ok(None);
     };
-    let numbers = numbers(alloc, listed)?;
+    let numbers = numbers_of(alloc, listed)?;
     let answer = lists::write_list(&numbers, lent, place);
     Ok(Some(Wrote(answer, lent)))
 }
 
-// Into an answer slice of so many numbers.
+// Reads a block into an answer slice of so many numbers.
 fn read_strict(
     alloc: Global,
     room: u64,
@@ -77,7 +77,7 @@ fn read_strict(
     Ok(Some(Filled(answer, slice)))
 }
 
-// Of so many numbers, which stand in front of the bytes, into an answer slice.
+// Reads a phrase of so many numbers, which stand in front of the bytes, into an answer slice.
 fn read_phrase(
     alloc: Global,
     room: u64,
@@ -90,7 +90,7 @@ fn read_phrase(
     let Some((listed, _)) = take_listed(count, bytes) else {
         return Ok(None);
     };
-    let numbers = numbers(alloc, listed)?;
+    let numbers = numbers_of(alloc, listed)?;
     let mut slice = vec![in alloc; UNFILLED; room as usize]?;
     let answer = phrases::read_phrase(&numbers, &mut slice);
     Ok(Some(Filled(answer, slice)))

@@ -9,7 +9,7 @@ use std::fmt::Display;
 use std::io::Write;
 use std::{fmt, io};
 use turns::Turn;
-use words::{Count, Fault, Place, Refusal, number};
+use words::{Count, Fault, Place, Refusal};
 
 pub(crate) trait Say {
     fn say(self, out: &mut impl Write) -> io::Result<()>;
@@ -36,14 +36,14 @@ impl<T: Say, E: Say> Say for Result<T, E> {
 
 impl Say for Refusal {
     fn say(self, out: &mut impl Write) -> io::Result<()> {
-        write!(out, "refused {}", number(self))
+        write!(out, "refused {self}")
     }
 }
 
 impl Say for Fault {
     fn say(self, out: &mut impl Write) -> io::Result<()> {
         let Fault(refusal, Place(at)) = self;
-        write!(out, "refused {} {at}", number(refusal))
+        write!(out, "refused {refusal} {at}")
     }
 }
 
@@ -98,7 +98,7 @@ impl Say for Step {
                 write!(out, "number {v} {n} {}", next.place.0)
             }
             Step::Gap(Fault(reason, Place(at)), Count(n), next) => {
-                write!(out, "gap {} {n} {} {at}", number(reason), next.place.0)
+                write!(out, "gap {reason} {n} {} {at}", next.place.0)
             }
             Step::Tail(Count(n), next) => write!(out, "tail {n} {}", next.place.0),
             Step::Finished(next) => write!(out, "finished {}", next.place.0),
@@ -119,14 +119,14 @@ impl Say for Turn {
 impl Say for ReadEntry {
     fn say(self, out: &mut impl Write) -> io::Result<()> {
         match self {
-            ReadEntry::Good(entry, Place(end)) => {
-                let Entry {
+            ReadEntry::Good(
+                Entry {
                     segment,
                     sentence,
                     turn,
-                } = entry;
-                write!(out, "entry {segment} {sentence} {turn} {end}")
-            }
+                },
+                Place(end),
+            ) => { write!(out, "entry {segment} {sentence} {turn} {end}") }
             ReadEntry::Bad(refusal, end) => Fault(refusal, end).say(out),
         }
     }
