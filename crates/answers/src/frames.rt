@@ -15,16 +15,16 @@ pub(crate) struct Frame<'a> {
 }
 
 // The next bytes.
-fn read_array<R: Read, const N: usize>(input: &mut R) -> io::Result<[u8; N]> {
+fn read_array<const N: usize>(input: &mut impl Read) -> io::Result<[u8; N]> {
     let mut bytes = [0; N];
     input.read_exact(&mut bytes)?;
     Ok(bytes)
 }
 
-// The next frame, whose n bytes go into the buffer; none where the input has ended. A frame that is cut short, or whose n is too
-// large for the buffer, is an error.
-pub(crate) fn next_frame<'a, R: BufRead>(
-    input: &mut R,
+// The next frame, whose n bytes go into the buffer; none where the input has ended, or the first read fails. A frame that is cut
+// short, or whose n is too large for the buffer, is an error.
+pub(crate) fn next_frame<'a>(
+    input: &mut impl BufRead,
     buffer: &'a mut [u8],
 ) -> io::Result<Option<Frame<'a>>> {
     if input.fill_buf().unwrap_or(&[]).is_empty() {

@@ -25,18 +25,9 @@ fn take_range(bytes: &mut [u8]) -> Option<(Range, &mut [u8])> {
 pub(crate) fn take_setting(kind: u64, bytes: &mut [u8]) -> Option<(Setting, &mut [u8])> {
     match kind {
         0 => Some((Setting::Nothing, bytes)),
-        1 => {
-            let (torque, behind) = take_float(bytes)?;
-            Some((Setting::Torque(torque), behind))
-        }
-        2 => {
-            let (angle, behind) = take_float(bytes)?;
-            Some((Setting::Angle(angle), behind))
-        }
-        3 => {
-            let (range, behind) = take_range(bytes)?;
-            Some((Setting::Range(range), behind))
-        }
+        1 => take_float(bytes).map(|(torque, behind)| (Setting::Torque(torque), behind)),
+        2 => take_float(bytes).map(|(angle, behind)| (Setting::Angle(angle), behind)),
+        3 => take_range(bytes).map(|(range, behind)| (Setting::Range(range), behind)),
         _ => None,
     }
 }

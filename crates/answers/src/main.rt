@@ -34,7 +34,7 @@ fn answer_all(rt: HostRuntime) -> io::Result<()> {
     out.flush()
 }
 
-// Output that fails ends the run without a word.
+// Output that fails ends the run without a word; too little memory is an error.
 fn main(rt: HostRuntime) -> io::Result<()> {
     match answer_all(rt) {
         Err(e) if e.kind() != ErrorKind::OutOfMemory => Ok(()),
