@@ -13,6 +13,7 @@ use std::io;
 use std::io::{BufReader, BufWriter, ErrorKind, Write};
 
 // A proved loop has to end, and nothing says that the input does. So 2^64 - 1 frames are answered at most: no input has so many.
+// Each line is written out before the next frame is read.
 fn answer_all(rt: HostRuntime) -> io::Result<()> {
     let alloc = rt.alloc();
     let mut input = BufReader::new(alloc, rt.stdin())?;
