@@ -59,10 +59,11 @@ def parts(text):
 
 
 class Function:
-    """A function: `name` with its crate (and type), whether callers outside its crate may name it, its `bounds`, parameters, answer, clauses and text."""
+    """A function: `name` with its crate (and type), whether callers outside its crate may name it, whether a trait asks for it, its `bounds`, parameters,
+    answer, clauses and text."""
 
-    def __init__(self, crate, path, text, holder, start, at, name):
-        self.crate, self.path = crate, path
+    def __init__(self, crate, path, text, holder, start, at, name, asked):
+        self.crate, self.path, self.asked = crate, path, asked
         self.name = f"{crate}::{holder}{name}"
         before = text[start:at]
         self.public = bool(re.search(r"\bpub\b(?!\s*\(\s*(?:crate|super|self)\s*\))|\bextern\b|no_mangle", before))
@@ -76,7 +77,7 @@ class Function:
             self.parameters[word] = kind.strip() or holder[:-2]
         self.clauses = []
         i = closes + 1
-        answer = re.compile(r"\s*->\s*((?:(?!\b(?:requires|ensures|ghost|where)\b)[^{;])*)").match(text, i)
+        answer = re.compile(r"\s*->\s*((?:(?!\b(?:requires|ensures|ghost|where)\b)(?:\[[^][]*\]|[^{;]))*)").match(text, i)
         self.answer = answer[1].strip() if answer else ""
         i = answer.end() if answer else i
         while True:  # a clause may have a name, and a star
@@ -116,10 +117,12 @@ def functions():
     for path in sorted(glob.glob("crates/*/src/**/*.rt", recursive=True)):
         crate, text = path.split("/")[1], code_of(read(path))
         holders = [(m.end() - 1, closing(text, m.end() - 1), m[1] + "::") for m in re.finditer(r"\bimpl\s+(\w+)\s*\{", text)]
+        traits = [(m.end() - 1, closing(text, m.end() - 1)) for m in re.finditer(r"\btrait\s+\w[^{;]*\{", text)]
         for m in re.finditer(r"\bfn\b\s*(\w*)", text):
+            asked = any(opens < m.start() < closes for opens, closes in traits)
             holder = next((name for opens, closes, name in holders if opens < m.start() < closes), "")
             start = max(text.rfind(c, 0, m.start()) for c in ";{}") + 1
-            found.append(Function(crate, path, text, holder, start, m.start(), m[1]))
+            found.append(Function(crate, path, text, holder, start, m.start(), m[1], asked))
     return found
 
 

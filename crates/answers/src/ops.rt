@@ -1,73 +1,142 @@
-// The ops: what each asks of the desk, and the line that says what the desk answered. Any other op is unknown, and so is one
-// that does not take the numbers of its frame.
+// The ops: what each asks of the desk, and what the desk answered. Any other op is unknown, and so is one that does not take the
+// numbers of its frame.
 use crate::frames::Frame;
-use crate::lines::Line;
-use crate::numbers::Narrow;
-use crate::{listings, numbers, said, settings, slices, writes};
+use crate::fronts::{numbers_of, take_entry, take_listed, take_setting, torque_and_range};
+use crate::said::{Filled, Hex, Say, Slip, Wrote};
 use blocks::{Cursor, Rule};
 use listing::TEXT_ROOM;
-use words::{Count, Place};
+use lists::NotRead;
+use std::alloc::{AllocError, Global};
+use std::io;
+use std::io::Write;
+use turns::Turn;
+use words::{Count, Place, Refusal};
 
-fn length_u32(a: u64) -> Line {
-    match numbers::of_32_bits(a) {
-        Narrow::Number(v) => said::count(uleb128::length_u32(v)),
-        Narrow::TooLarge => said::unknown(),
-    }
+// The most numbers of an answer slice. It is more than the bytes of a frame hold.
+const MOST_NUMBERS: u64 = 65536;
+
+// What each number of an answer slice is before it is filled.
+const UNFILLED: u64 = 7777777777777777777;
+
+fn length_u32(v: u64) -> Option<Count> {
+    let v = u32::try_from(v).ok()?;
+    Some(uleb128::length_u32(v))
 }
 
-fn step(block: &[u8], place: Place, rule: Rule) -> Line {
-    let cursor = Cursor { place };
-    said::step(cursor.step(block, rule))
+fn turn(quarters: u64, thread: u64) -> Option<Result<Turn, Refusal>> {
+    let thread = u8::try_from(thread).ok()?;
+    Some(turns::means(quarters.cast_signed(), thread))
 }
 
-// A thread code is a byte.
-fn turn(a: u64, b: u64) -> Line {
-    if b < 256 {
-        return said::meaning(turns::means(numbers::signed(a), b as u8));
-    }
-    said::unknown()
+fn lies_in_range(bytes: &mut [u8]) -> Option<bool> {
+    let (torque, range) = torque_and_range(bytes)?;
+    Some(slips::lies_in_range(torque, range))
 }
 
-// The line for an op that leaves the bytes as they are.
-fn look(frame: Frame, bytes: &[u8]) -> Line {
-    let op = frame.op;
-    let a = frame.a;
-    let place = Place(a as usize);
-    match op {
-        1 => said::read_u64(uleb128::read_u64(bytes, place)),
-        2 => said::read_u64(uleb128_rec::read_u64_rec(bytes, place)),
-        3 => said::read_u32(uleb128::read_u32(bytes, place)),
-        4 => said::read_i64(sleb128::read_i64(bytes, place)),
-        9 => said::count(uleb128::length_u64(a)),
-        10 => length_u32(a),
-        11 => said::count(sleb128::length_i64(numbers::signed(a))),
-        12 => step(bytes, place, Rule::Unsigned),
-        13 => step(bytes, place, Rule::Signed),
-        14 => said::set_down(blocks::set_down(bytes, place)),
-        17 => turn(a, frame.b),
-        19 => said::read_setting(slips::read_setting(bytes, place)),
-        21 => settings::lies_in_range(bytes),
-        23 => said::read_entry(entries::read_entry(bytes, place)),
-        _ => said::unknown(),
-    }
+fn write_u32(v: u64, lent: &mut [u8], place: Place) -> Option<Wrote<'_>> {
+    let v = u32::try_from(v).ok()?;
+    Some(Wrote(uleb128::write_u32(v, lent, place), lent))
 }
 
-// The line for a frame with these bytes, laid down at the front of the output, without its newline; and how many bytes it
-// fills.
-pub(crate) fn answer(
-    frame: Frame,
+fn write_setting(kind: u64, bytes: &mut [u8], place: Place) -> Option<Wrote<'_>> {
+    let (setting, lent) = take_setting(kind, bytes)?;
+    Some(Wrote(slips::write_setting(setting, lent, place), lent))
+}
+
+fn write_entry(bytes: &mut [u8], place: Place) -> Option<Wrote<'_>> {
+    let (entry, lent) = take_entry(bytes)?;
+    Some(Wrote(entries::write_entry(entry, lent, place), lent))
+}
+
+// Writes a list of so many numbers, which stand in front of the bytes that are lent.
+fn write_list(
+    alloc: Global,
+    count: u64,
     bytes: &mut [u8],
-    list: &mut [u64],
-    slots: &mut [u64],
+    place: Place,
+) -> Result<Option<Wrote<'_>>, AllocError> {
+    let Some((listed, lent)) = take_listed(count, bytes) else {
+        return Ok(None);
+    };
+    let numbers = numbers_of(alloc, listed)?;
+    let answer = lists::write_list(&numbers, lent, place);
+    Ok(Some(Wrote(answer, lent)))
+}
+
+// Reads a block into an answer slice of so many numbers.
+fn read_strict(
+    alloc: Global,
+    room: u64,
+    block: &[u8],
+) -> Result<Option<Filled<NotRead>>, AllocError> {
+    if MOST_NUMBERS < room {
+        return Ok(None);
+    }
+    let mut slice = vec![in alloc; UNFILLED; room as usize]?;
+    let answer = lists::read_strict(block, &mut slice);
+    Ok(Some(Filled(answer, slice)))
+}
+
+// Reads a phrase of so many numbers, which stand in front of the bytes, into an answer slice.
+fn read_phrase(
+    alloc: Global,
+    room: u64,
+    count: u64,
+    bytes: &mut [u8],
+) -> Result<Option<Filled<Refusal>>, AllocError> {
+    if MOST_NUMBERS < room {
+        return Ok(None);
+    }
+    let Some((listed, _)) = take_listed(count, bytes) else {
+        return Ok(None);
+    };
+    let numbers = numbers_of(alloc, listed)?;
+    let mut slice = vec![in alloc; UNFILLED; room as usize]?;
+    let answer = phrases::read_phrase(&numbers, &mut slice);
+    Ok(Some(Filled(answer, slice)))
+}
+
+// Writes the line for a frame, without its end. The text of a listing goes by way of a buffer.
+pub(crate) fn answer(
+    alloc: Global,
+    frame: Frame<'_>,
     text: &mut [u8; TEXT_ROOM],
-    out: &mut [u8],
-) -> Count {
-    let op = frame.op;
+    out: &mut impl Write,
+) -> io::Result<()> {
+    let Frame { op, a, b, bytes } = frame;
+    let at_a = Place(a as usize);
+    let at_b = Place(b as usize);
+    let cursor = Cursor { place: at_a };
     match op {
-        5..=8 | 16 | 20 | 24 => writes::answer(frame, bytes, list, out),
-        15 => slices::read_strict(frame.a, bytes, slots, out),
-        18 => listings::list(bytes, text, out),
-        22 => slices::read_phrase(frame, bytes, list, slots, out),
-        _ => look(frame, bytes).lay(out, Count(0)),
+        1 => uleb128::read_u64(bytes, at_a).say(out),
+        2 => uleb128_rec::read_u64_rec(bytes, at_a).say(out),
+        3 => uleb128::read_u32(bytes, at_a).say(out),
+        4 => sleb128::read_i64(bytes, at_a).say(out),
+        5 => Wrote(uleb128::write_u64(a, bytes, at_b), bytes).say(out),
+        6 => Wrote(uleb128_rec::write_u64_rec(a, bytes, at_b), bytes).say(out),
+        7 => write_u32(a, bytes, at_b).say(out),
+        8 => Wrote(sleb128::write_i64(a.cast_signed(), bytes, at_b), bytes).say(out),
+        9 => uleb128::length_u64(a).say(out),
+        10 => length_u32(a).say(out),
+        11 => sleb128::length_i64(a.cast_signed()).say(out),
+        12 => cursor.step(bytes, Rule::Unsigned).say(out),
+        13 => cursor.step(bytes, Rule::Signed).say(out),
+        14 => blocks::set_down(bytes, at_a).say(out),
+        15 => read_strict(alloc, a, bytes)?.say(out),
+        16 => write_list(alloc, b, bytes, at_a)?.say(out),
+        17 => turn(a, b).say(out),
+        18 => {
+            let Count(n) = listing::lay_listing(bytes, text);
+            write!(out, "text {}", Hex(&text[..n]))
+        }
+        19 => slips::read_setting(bytes, at_a)
+            .map(|(setting, count)| Slip(setting, count))
+            .say(out),
+        20 => write_setting(a, bytes, at_b).say(out),
+        21 => lies_in_range(bytes).say(out),
+        22 => read_phrase(alloc, a, b, bytes)?.say(out),
+        23 => entries::read_entry(bytes, at_a).say(out),
+        24 => write_entry(bytes, at_a).say(out),
+        _ => write!(out, "unknown"),
     }
 }

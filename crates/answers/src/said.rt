@@ -1,149 +1,192 @@
-// What the desk answered, as lines.
-use crate::lines::{Line, says};
-use blocks::{SetDown, Step};
+// What the desk answered, as it is said in a line.
+use crate::floats::bits_of;
+use blocks::{Cursor, Step};
 use entries::{Entry, ReadEntry};
-use lists::{Numbers, ReadList};
-use phrases::ReadPhrase;
-use sleb128::ReadI64;
-use slips::{ReadSetting, Setting};
-use turns::{Meaning, Turn};
-use uleb128::{ReadU32, ReadU64};
-use words::{Count, Place, Refusal, Written};
+use groups::Value;
+use lists::{NotRead, Numbers};
+use slips::{Range, Setting};
+use std::fmt::Display;
+use std::io::Write;
+use std::{fmt, io};
+use turns::Turn;
+use words::{Count, Fault, Place, Refusal};
 
-// There is no such op, or it does not take the numbers of its frame.
-pub(crate) fn unknown() -> Line {
-    says(b"unknown")
+pub(crate) trait Say {
+    fn say(self, out: &mut impl Write) -> io::Result<()>;
 }
 
-fn refused(refusal: Refusal) -> Line {
-    says(b"refused").refusal(refusal)
-}
-
-fn decided(refusal: Refusal, place: Place) -> Line {
-    refused(refusal).place(place)
-}
-
-pub(crate) fn count(count: Count) -> Line {
-    says(b"count").count(count)
-}
-
-pub(crate) fn read_u64(answer: Result<(u64, Count), Fault>) -> Line {
-    match answer {
-        Ok((v, n)) => says(b"number").number(v).count(n),
-        Err(Fault(refusal, place)) => decided(refusal, place),
+// None is for an op that does not take the numbers of its frame.
+impl<T: Say> Say for Option<T> {
+    fn say(self, out: &mut impl Write) -> io::Result<()> {
+        match self {
+            Some(answer) => answer.say(out),
+            None => write!(out, "unknown"),
+        }
     }
 }
 
-pub(crate) fn read_u32(answer: Result<(u32, Count), Fault>) -> Line {
-    match answer {
-        Ok((v, n)) => says(b"number").number(v as u64).count(n),
-        Err(Fault(refusal, place)) => decided(refusal, place),
+impl<T: Say, E: Say> Say for Result<T, E> {
+    fn say(self, out: &mut impl Write) -> io::Result<()> {
+        match self {
+            Ok(answer) => answer.say(out),
+            Err(error) => error.say(out),
+        }
     }
 }
 
-pub(crate) fn read_i64(answer: Result<(i64, Count), Fault>) -> Line {
-    match answer {
-        Ok((v, n)) => says(b"number").signed(v).count(n),
-        Err(Fault(refusal, place)) => decided(refusal, place),
+impl Say for Refusal {
+    fn say(self, out: &mut impl Write) -> io::Result<()> {
+        write!(out, "refused {self}")
     }
 }
 
-pub(crate) fn written(answer: Result<Count, Refusal>) -> Line {
-    match answer {
-        Ok(n) => count(n),
-        Err(refusal) => refused(refusal),
+impl Say for Fault {
+    fn say(self, out: &mut impl Write) -> io::Result<()> {
+        let Fault(refusal, Place(at)) = self;
+        write!(out, "refused {refusal} {at}")
     }
 }
 
-pub(crate) fn step(answer: Result<Step, Refusal>) -> Line {
-    match answer {
-        Ok(Step::Number(value, n, next)) => says(b"number").value(value).count(n).cursor(next),
-        Ok(Step::Gap(Fault(reason, place), n, next)) => says(b"gap")
-            .refusal(reason)
-            .count(n)
-            .cursor(next)
-            .place(place),
-        Ok(Step::Tail(n, next)) => says(b"tail").count(n).cursor(next),
-        Ok(Step::Finished(next)) => says(b"finished").cursor(next),
-        Err(refusal) => refused(refusal),
+impl Say for NotRead {
+    fn say(self, out: &mut impl Write) -> io::Result<()> {
+        match self {
+            NotRead::Faulty(fault) => fault.say(out),
+            NotRead::Refused(refusal) => refusal.say(out),
+        }
     }
 }
 
-pub(crate) fn set_down(answer: Result<Cursor, Refusal>) -> Line {
-    match answer {
-        Ok(cursor) => says(b"start").cursor(cursor),
-        Err(refusal) => refused(refusal),
+impl Say for bool {
+    fn say(self, out: &mut impl Write) -> io::Result<()> {
+        write!(out, "{}", if self { "yes" } else { "no" })
     }
 }
 
-fn turn(turn: Turn) -> Line {
-    match turn {
-        Turn::Tighten => says(b"tighten"),
-        Turn::Loosen => says(b"loosen"),
-        Turn::Hold => says(b"hold"),
+impl Say for Count {
+    fn say(self, out: &mut impl Write) -> io::Result<()> {
+        write!(out, "count {}", self.0)
     }
 }
 
-pub(crate) fn meaning(answer: Result<Turn, Refusal>) -> Line {
-    match answer {
-        Ok(name) => turn(name),
-        Err(refusal) => refused(refusal),
+impl Say for Numbers {
+    fn say(self, out: &mut impl Write) -> io::Result<()> {
+        write!(out, "count {}", self.0)
     }
 }
 
-fn filled(numbers: Numbers) -> Line {
-    says(b"count").number(numbers.0 as u64)
-}
-
-pub(crate) fn read_list(answer: Result<Numbers, NotRead>) -> Line {
-    match answer {
-        Ok(numbers) => filled(numbers),
-        Err(NotRead::Faulty(Fault(refusal, place))) => decided(refusal, place),
-        Err(NotRead::Refused(refusal)) => refused(refusal),
+impl Say for Cursor {
+    fn say(self, out: &mut impl Write) -> io::Result<()> {
+        write!(out, "start {}", self.place.0)
     }
 }
 
-pub(crate) fn read_phrase(answer: Result<Numbers, Refusal>) -> Line {
-    match answer {
-        Ok(numbers) => filled(numbers),
-        Err(refusal) => refused(refusal),
+// A number that was read, and how many bytes it has.
+impl<V: Display + Drop> Say for (V, Count) {
+    fn say(self, out: &mut impl Write) -> io::Result<()> {
+        let (v, Count(n)) = self;
+        write!(out, "number {v} {n}")
     }
 }
 
-fn entry(entry: Entry) -> Line {
-    says(b"entry")
-        .number(entry.segment)
-        .number(entry.sentence)
-        .signed(entry.turn)
-}
-
-pub(crate) fn read_entry(answer: Result<ReadEntry, Refusal>) -> Line {
-    match answer {
-        Ok(ReadEntry::Good(read, end)) => entry(read).place(end),
-        Ok(ReadEntry::Bad(refusal, end)) => decided(refusal, end),
-        Err(refusal) => refused(refusal),
+impl Say for Step {
+    fn say(self, out: &mut impl Write) -> io::Result<()> {
+        match self {
+            Step::Number(Value::Unsigned(v), Count(n), next) => {
+                write!(out, "number {v} {n} {}", next.place.0)
+            }
+            Step::Number(Value::Signed(v), Count(n), next) => {
+                write!(out, "number {v} {n} {}", next.place.0)
+            }
+            Step::Gap(Fault(reason, Place(at)), Count(n), next) => {
+                write!(out, "gap {reason} {n} {} {at}", next.place.0)
+            }
+            Step::Tail(Count(n), next) => write!(out, "tail {n} {}", next.place.0),
+            Step::Finished(next) => write!(out, "finished {}", next.place.0),
+        }
     }
 }
 
-fn setting(setting: Setting) -> Line {
-    match setting {
-        Setting::Nothing => says(b"nothing"),
-        Setting::Torque(torque) => says(b"torque").bits(torque),
-        Setting::Angle(angle) => says(b"angle").bits(angle),
-        Setting::Range(range) => says(b"range").bits(range.lowest).bits(range.highest),
+impl Say for Turn {
+    fn say(self, out: &mut impl Write) -> io::Result<()> {
+        match self {
+            Turn::Tighten => write!(out, "tighten"),
+            Turn::Loosen => write!(out, "loosen"),
+            Turn::Hold => write!(out, "hold"),
+        }
     }
 }
 
-pub(crate) fn read_setting(answer: Result<(Setting, Count), Refusal>) -> Line {
-    match answer {
-        Ok((read, n)) => setting(read).count(n),
-        Err(refusal) => refused(refusal),
+impl Say for ReadEntry {
+    fn say(self, out: &mut impl Write) -> io::Result<()> {
+        match self {
+            ReadEntry::Good(
+                Entry {
+                    segment,
+                    sentence,
+                    turn,
+                },
+                Place(end),
+            ) => { write!(out, "entry {segment} {sentence} {turn} {end}") }
+            ReadEntry::Bad(refusal, end) => Fault(refusal, end).say(out),
+        }
     }
 }
 
-pub(crate) fn yes_or_no(yes: bool) -> Line {
-    if yes {
-        return says(b"yes");
+// A setting that was read, and how many bytes it has.
+#[derive(Clone, Copy)]
+pub(crate) struct Slip(pub(crate) Setting, pub(crate) Count);
+
+impl Say for Slip {
+    fn say(self, out: &mut impl Write) -> io::Result<()> {
+        let Slip(setting, Count(n)) = self;
+        match setting {
+            Setting::Nothing => write!(out, "nothing {n}"),
+            Setting::Torque(torque) => write!(out, "torque {} {n}", bits_of(torque)),
+            Setting::Angle(angle) => write!(out, "angle {} {n}", bits_of(angle)),
+            Setting::Range(Range { lowest, highest }) => {
+                write!(out, "range {} {} {n}", bits_of(lowest), bits_of(highest))
+            }
+        }
     }
-    says(b"no")
+}
+
+// What a writer answered, and the bytes that it was lent.
+#[derive(Clone, Copy)]
+pub(crate) struct Wrote<'a>(pub(crate) Result<Count, Refusal>, pub(crate) &'a [u8]);
+
+impl Say for Wrote<'_> {
+    fn say(self, out: &mut impl Write) -> io::Result<()> {
+        self.0.say(out)?;
+        write!(out, " {}", Hex(self.1))
+    }
+}
+
+// What was answered, and the whole answer slice.
+pub(crate) struct Filled<E>(pub(crate) Result<Numbers, E>, pub(crate) Vec<u64>);
+
+impl<E: Say> Say for Filled<E> {
+    fn say(self, out: &mut impl Write) -> io::Result<()> {
+        let Filled(answer, slice) = self;
+        answer.say(out)?;
+        for v in slice.iter() {
+            write!(out, " {v}")?;
+        }
+        Ok(())
+    }
+}
+
+// Bytes in hexadecimal, or `-` if there are none.
+#[derive(Clone, Copy)]
+pub(crate) struct Hex<'a>(pub(crate) &'a [u8]);
+
+impl Display for Hex<'_> {
+    fn fmt<W: fmt::Write>(&self, f: &mut fmt::Formatter<W>) -> fmt::Result {
+        if self.0.is_empty() {
+            return write!(f, "-");
+        }
+        for b in self.0 {
+            write!(f, "{b:02x}")?;
+        }
+        Ok(())
+    }
 }
