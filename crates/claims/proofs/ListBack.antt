@@ -26,7 +26,6 @@ use Rattle.blocks.specs.Block.{block_limit}
 use Rattle.lists.specs.Lists.{forms, list_limit}
 use Rattle.lists.specs.Strict.{joined, numbers, strict, filled}
 use Rattle.lists.specs.Promise.{WritesList}
-use Rattle.lists.specs.declared.NotRead.TheVariants as L
 use Rattle.lists.proofs.NumbersInFront.{numbers_group, numbers_none}
 use Rattle.lists.proofs.OneList.{same_list}
 use Rattle.claims.specs.Kinds.{loop64}

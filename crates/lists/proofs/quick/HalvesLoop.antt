@@ -7,6 +7,7 @@
 --   Turn k ..                   both streams have k numbers left or more, and so k bytes
 --   turn_begins                 where the loop goes on, 17
 --   accepts_first, accepts_second   each stream then has a number of ten bytes or fewer at its front
+--   first_inside, second_inside     and what it reads lies inside the stream's bytes and slots
 --   turn_numbers                when a number of each was read and stored, 16
 --   turn_stored                 both in one, from where the loop goes on
 --   ready_first, ready_second   each stream then has sixteen bytes and room for as many, the second also when the first has made its step
