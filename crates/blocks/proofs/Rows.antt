@@ -112,7 +112,8 @@ module _ (s : List ℕ) (p : ℕ) where
         set_found c e h =
             record {
               is =
-                  rw (le-ltb block_limit (length s) fits, le-ltb (length s) p here, ne_eqb p 0 (λ z. omega arith), lt-ltb _ (length s) h) (ap gives (e ∙ omega arith));
+                  rw (le-ltb block_limit (length s) fits, le-ltb (length s) p here, ne_eqb p 0 (λ z. omega arith), lt-ltb _ (length s) h)
+                  (ap gives (e ∙ omega arith));
             }
 
         pub set_none : length s ≤ p - 1 + run (drop (p - 1) s) → SetsDown s p (Err NoStart)

@@ -97,7 +97,9 @@ fn unread(block: &[u8], at: usize, fault: Fault) -> Result<Step, Refusal>
     Ok(Step::Gap(fault, Count(count), Cursor::at(at + count)))
 }
 
-// What a step says at a start before the block's end, in full: for groups of more than one byte, gaps and tails.
+// What a step says at a start before the block's end, in full: for groups of more than one byte, gaps and tails. It and the step are part
+// of each caller, where the rule is known for the most part (docs/SPEED.md).
+#[inline(always)]
 fn long(block: &[u8], at: usize, rule: Rule) -> Result<Step, Refusal>
     requires { at < length block.now }
     ensures { means_step result ≡ standing rule block.now at }
@@ -128,6 +130,7 @@ impl Cursor {
     }
 
     // One step: 7, 4 or 6; the end; a tail; or what the group at the place says by the rule.
+    #[inline(always)]
     pub fn step(self, block: &[u8], rule: Rule) -> Result<Step, Refusal>
         ensures { Steps rule block.now self.place.0 result }
     {
@@ -148,12 +151,7 @@ impl Cursor {
         if !is_high_8_bit_set(b) {
             return Ok(Step::Number(alone(rule, b), Count(1), Cursor::at(at + 1)));
         }
-        // Called in two places, `long` stays outside of the step, which so is small enough to become part of its callers
-        // (docs/SPEED.md).
-        match rule {
-            Rule::Unsigned => long(block, at, Rule::Unsigned),
-            Rule::Signed => long(block, at, Rule::Signed),
-        }
+        long(block, at, rule)
     }
 }
 

@@ -11,7 +11,8 @@ use crate::Value;
 use bits::{set_high_8_bit, take_low_7_bits};
 use words::{Count, Place, Refusal, has_room};
 
-// The values at which a 64-bit number grows by a byte.
+// The values at which a 64-bit number grows by a byte. A constant would be laid down anew wherever it is asked at a place known only
+// at run time.
 static GROWTH: [u64; 9] = [
     128,
     16384,

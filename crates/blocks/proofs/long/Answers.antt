@@ -41,7 +41,9 @@ unread-requires c = decided_high _ _ u64 (search rules) c.in-Err.fault.0 _ (sym 
 
 pub returns-in-Ok : goal.returns-in-Ok
 returns-in-Ok c =
-    rw c.at.ensures (sym (says_u c.args.block.now c.args.at c.in-Ok.v c.in-Ok.count (λ i. (c.type_inv.block i).fits) c.in-Unsigned.is c.read_u64.ensures c.in-Ok.is).1)
+    let w = c.in-Ok in
+    rw c.at.ensures
+    (sym (says_u c.args.block.now c.args.at w.v w.count (λ i. (c.type_inv.block i).fits) c.in-Unsigned.is c.read_u64.ensures w.is).1)
 
 pub returns-in-Err : goal.returns-in-Err
 returns-in-Err c =

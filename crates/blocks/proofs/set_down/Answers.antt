@@ -14,11 +14,16 @@ pub returns-then-at-lt1 : goal.returns-then-at-lt1
 returns-then-at-lt1 c = set_front _ _ c.if-block-gt-BLOCK_LIMIT.false c.if-block-at.false _ refl c.if-at-lt1.true
 
 pub overflow_add-last : goal.overflow_add-last
-overflow_add-last c = omega (arith, c.high_run.ensures ∙ run_taken c.args.block.now (c.args.place.0 - 1), run_inside c.args.block.now (c.args.place.0 - 1) (search rules))
+overflow_add-last c =
+    let e = c.high_run.ensures ∙ run_taken c.args.block.now (c.args.place.0 - 1) in
+    omega (arith, e, run_inside c.args.block.now (c.args.place.0 - 1) (search rules))
 
 pub returns-then-last-block : goal.returns-then-last-block
 returns-then-last-block c =
-    set_found _ _ (search rules) (search rules) (search rules) _ (rw (c.at.ensures, c.high_run.ensures ∙ run_taken c.args.block.now (c.args.place.0 - 1))) (rw (c.high_run.ensures ∙ run_taken c.args.block.now (c.args.place.0 - 1)) at c.if-last-block.true)
+    let e = c.high_run.ensures ∙ run_taken c.args.block.now (c.args.place.0 - 1) in
+    set_found _ _ (search rules) (search rules) (search rules) _ (rw (c.at.ensures, e)) (rw e at c.if-last-block.true)
 
 pub returns : goal.returns
-returns c = set_none _ _ (search rules) (search rules) (search rules) (rw (c.high_run.ensures ∙ run_taken c.args.block.now (c.args.place.0 - 1)) at c.if-last-block.false)
+returns c =
+    let e = c.high_run.ensures ∙ run_taken c.args.block.now (c.args.place.0 - 1) in
+    set_none _ _ (search rules) (search rules) (search rules) (rw e at c.if-last-block.false)

@@ -24,11 +24,5 @@ returns-then-not-is_high_8_bit_set c =
     step_standing _ _ _ (search rules) (search rules) (sym c.is_start.ensures ∙ c.if-not-is_start.false) refl
     (rw c.at.ensures (reads_one _ _ _ (search rules) (leb-false _ _ (sym c.if-not-is_high_8_bit_set.ensures)) c.alone.ensures))
 
-pub returns-in-Unsigned : goal.returns-in-Unsigned
-returns-in-Unsigned c =
-    step_standing _ _ _ (search rules) (search rules) (sym c.is_start.ensures ∙ c.if-not-is_start.false) c.in-Unsigned.is c.long.ensures
-
-pub returns-in-Signed : goal.returns-in-Signed
-returns-in-Signed c =
-    step_standing _ _ _ (search rules) (search rules) (sym c.is_start.ensures ∙ c.if-not-is_start.false) c.in-Signed.is
-    c.long-in-Signed.ensures
+pub returns : goal.returns
+returns c = step_standing _ _ _ (search rules) (search rules) (sym c.is_start.ensures ∙ c.if-not-is_start.false) refl c.long.ensures

@@ -1,5 +1,5 @@
 -- `groups::lay` keeps what it promises inside the crate: each way out is a law of `StoreLoop`.
-use Rattle.std.proofs.Common.{ℕ, sym, arith, length-drop}
+use Rattle.std.proofs.Common.{◌≡◌, ℕ, ◌+◌, sym, arith, length-drop}
 use Rattle.std.proofs.lemmas.List.{length-take}
 use Rattle.words.proofs.Lays.{room_refused, room_there}
 use Rattle.groups.proofs.Spelling.{length_groups}
@@ -19,6 +19,6 @@ loop-byte-preserved c =
 pub returns : goal.returns
 returns c =
     let room = room_there c.has_room.ensures c.if-not-has_room.false in
-    all_stored _ _ _ c.loop-byte.invariant _ _ _ _ room (omega (arith, length-take {A = ℕ}, length-drop {A = ℕ})) (omega (arith, length-take {A = ℕ}, length-drop {A = ℕ}))
-    (omega (arith, length-take {A = ℕ}, length-drop {A = ℕ})) (omega (arith, length-take {A = ℕ}, length-drop {A = ℕ}))
+    let most : c.args.count.0 ≡ c.loop-byte.byte-index + 1 = omega (arith, length-take {A = ℕ}, length-drop {A = ℕ}) in
+    all_stored _ _ _ c.loop-byte.invariant _ _ _ _ room most (omega arith) (omega arith) (omega (arith, length-take {A = ℕ}, length-drop {A = ℕ}))
     c.take_low_7_bits-2.ensures c.said-2.ensures
