@@ -11,7 +11,7 @@ use mathlib.Core.Path.{◌≡◌, refl}
 use mathlib.Core.Logic.{inl}
 use mathlib.Core.List.{List, [], ◌++◌, append_assoc}
 use native.Mathlib.Omega.{arith}
-use lib.ListN.{length, take, drop, length-append}
+use lib.ListN.{length, drop, length-append}
 use lib.Seq.{take_all}
 use Rattle.texts.specs.Texts.{ascii, decimal, LaysText, Lays}
 use Rattle.texts.specs.declared.Text.{Text}

@@ -1,5 +1,5 @@
 -- `list::lay_note` keeps what it promises: each note stands at the front, since the buffer has room for the longest.
-use Rattle.std.proofs.Common.{refl, ◌≤◌, length, length-append, lt-ltb, le-ltb, arith}
+use Rattle.std.proofs.Common.{rules, ◌≡◌, refl, is_ok, true, false, ◌≤◌, length, length-append, lt-ltb, le-ltb, arith}
 use Rattle.texts.proofs.Decimals.{decimal_within_lem}
 use Rattle.blocks.specs.Block.{block_limit}
 use Rattle.listing.specs.Program.{limit_note}
@@ -13,12 +13,15 @@ limit_short = simp length-append (omega (arith, decimal_within_lem 9 block_limit
 pub returns : goal.returns
 returns c =
     elim c.match-known.branch [
-      in-Err w ↦ rw (w.note-is, w.in-Err.is) (fronts (omega (arith, c.told-note)) w.word.ensures.laid)
-    | in-Ok w ↦ rw (w.note-is, w.in-Ok.is, w.if-is_err.ensures.negation) (fronts (omega (arith, c.told-note)) w.word-in-Ok.ensures.laid)
-    | in-Ok-2 w ↦
-      rw (w.note-is, w.in-Ok-2.is, w.if-is_err.ensures.negation, lt-ltb block_limit w.in-Ok-2.count.0 w.if-count-gt-BLOCK_LIMIT.true)
-      (fronts (omega (arith, c.told-note, limit_short)) w.lay_limit.ensures.laid)
-    | in-Ok-3 w ↦
-      rw (w.note-is, w.in-Ok-2.is, w.if-is_err.ensures.negation, le-ltb block_limit w.in-Ok-2.count.0 w.if-count-gt-BLOCK_LIMIT.false)
-      (record { count = refl; bytes = refl })
+      | in-Err w ↦ rw (w.note-is, w.in-Err.is) (fronts (omega (arith, c.told-note)) w.word.ensures.laid)
+      | in-Ok w ↦
+          let lost : is_ok c.args.written ≡ false = search rules in
+          rw (w.note-is, w.in-Ok.is, lost) (fronts (omega (arith, c.told-note)) w.word-in-Ok.ensures.laid)
+      | in-Ok-2 w ↦
+          let kept : is_ok c.args.written ≡ true = search rules in
+          rw (w.note-is, w.in-Ok-2.is, kept, lt-ltb block_limit w.in-Ok-2.count.0 (omega arith))
+          (fronts (omega (arith, c.told-note, limit_short)) w.lay_limit.ensures.laid)
+      | in-Ok-3 w ↦
+          let kept : is_ok c.args.written ≡ true = search rules in
+          rw (w.note-is, w.in-Ok-2.is, kept, le-ltb block_limit w.in-Ok-2.count.0 (omega arith)) (record { count = refl; bytes = refl })
     ]
