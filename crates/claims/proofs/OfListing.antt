@@ -2,7 +2,7 @@
 --
 --   listing   the chapter
 use Prim.Native.Nat.{ℕ, ◌+◌, ◌-◌}
-use mathlib.Core.Path.{refl, ap, sym, ◌∙◌}
+use mathlib.Core.Path.{◌≡◌, refl, sym, ◌∙◌}
 use mathlib.Core.List.{List, ◌++◌}
 use lib.ListN.{length, take, drop}
 use lib.Seq.{sets}
@@ -13,23 +13,19 @@ use Rattle.listing.specs.Listing.{text}
 use Rattle.listing.proofs.TextFits.{text_above, text_within, text_fits}
 use Rattle.blocks.proofs.FromStart.{group_here}
 use Rattle.listing.proofs.RowsLeft.{end_left, tail_left, group_left}
-use Rattle.claims.specs.OfListing.{SameText, OfListing}
+use Rattle.claims.specs.OfListing.{OfListing}
 use Rattle.claims.proofs.Text.{front_enough, text_document}
 use Rattle.claims.proofs.Program.{taken, silent}
 
 some_text : (t : List ℕ) (x : Text) → (y : Text) × Lays t x y
 some_text t x =
-    let some = take (length x.buffer.now - x.filled.0) t in (
-      record { buffer = record x.buffer { now = sets x.buffer.now x.filled.0 some }; filled = record { 0 = x.filled.0 + length some } },
+    let l = take (length x.buffer.now - x.filled.0) t in (
+      record { buffer = record x.buffer { now = sets x.buffer.now x.filled.0 l }; filled = record { 0 = x.filled.0 + length l } },
       record { lent = refl; laid = record { count = refl; bytes = refl } },
     )
 
-one_text : (t : List ℕ) (x y y' : Text) → Lays t x y → Lays t x y' → SameText y y'
-one_text t x y y' a b = record {
-  filled = ap (λ n. record { 0 = n }) (a.laid.count ∙ sym b.laid.count);
-  bytes = a.laid.bytes ∙ sym b.laid.bytes;
-  lent = a.lent ∙ sym b.lent;
-}
+one_text : (t : List ℕ) (x y y' : Text) → Lays t x y → Lays t x y' → (y.filled.0 ≡ y'.filled.0) × (y.buffer.now ≡ y'.buffer.now)
+one_text t x y y' a b = (a.laid.count ∙ sym b.laid.count, a.laid.bytes ∙ sym b.laid.bytes)
 
 pub listing : OfListing
 listing = record {

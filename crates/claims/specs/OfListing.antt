@@ -10,7 +10,6 @@
 --   answers ps k, total ps   the answers of reads that give pieces, each of a byte and p more, and then k; how many bytes the pieces have
 --   Taken                    an input is taken whole, in whatever pieces it comes, or as far as the limit and a byte more; a read that fails is no end
 --   Silent                   nothing is said exactly where the whole input could be read and is within the limit, and all its text could be written
---   SameText y y'            the same bytes are laid down in the same buffer
 --   ListingMet, ListingOne   an answer meets each promise, and no second
 --   OfListing                all of it
 use Rattle.std.specs.Prelude.{ℕ, suc, ◌+◌, ◌/◌, ◌%◌, ◌≤◌, ◌<◌, Bool, true, ◌≡◌, List, [], ◌∷◌, ◌++◌, ◌↔◌, ℤ, pos, negsuc, length, take, drop, replicate}
@@ -77,16 +76,10 @@ pub record ListingMet : Type 0 where
   pub decimal : (v : ℕ) (x : Text) → (y : Text) × LaysDecimal v x y
   pub listing : (s before : List ℕ) → (r : ℕ) × (after : List ℕ) × LaysListing s before r after
 
--- the same bytes, as many of them filled, in the same buffer
-pub record SameText (y y' : Text) : Type 0 where
-  pub filled : y.filled ≡ y'.filled
-  pub bytes : y.buffer.now ≡ y'.buffer.now
-  pub lent : y.buffer.ghost_name ≡ y'.buffer.ghost_name
-
 -- And by no second: no second answer, and no second final content of what was lent.
 pub record ListingOne : Type 0 where
-  pub text : (t : List ℕ) (x y y' : Text) → Lays t x y → Lays t x y' → SameText y y'
-  pub decimal : (v : ℕ) (x y y' : Text) → LaysDecimal v x y → LaysDecimal v x y' → SameText y y'
+  pub text : (t : List ℕ) (x y y' : Text) → Lays t x y → Lays t x y' → (y.filled.0 ≡ y'.filled.0) × (y.buffer.now ≡ y'.buffer.now)
+  pub decimal : (v : ℕ) (x y y' : Text) → LaysDecimal v x y → LaysDecimal v x y' → (y.filled.0 ≡ y'.filled.0) × (y.buffer.now ≡ y'.buffer.now)
   pub listing : (s before : List ℕ) (r r' : ℕ) (after after' : List ℕ) → LaysListing s before r after → LaysListing s before r' after'
       → (r ≡ r') × (after ≡ after')
 

@@ -1,5 +1,5 @@
 -- `list::lay_note` keeps what it promises: each note stands at the front, since the buffer has room for the longest.
-use Rattle.std.proofs.Common.{rules, ◌≡◌, refl, is_ok, true, false, ◌≤◌, length, length-append, lt-ltb, le-ltb, arith}
+use Rattle.std.proofs.Common.{rules, ◌≡◌, is_ok, true, false, ◌≤◌, length, length-append, lt-ltb, arith}
 use Rattle.texts.proofs.Decimals.{decimal_within_lem}
 use Rattle.blocks.specs.Block.{block_limit}
 use Rattle.listing.specs.Program.{limit_note}
@@ -21,7 +21,5 @@ returns c =
           let kept : is_ok c.args.written ≡ true = search rules in
           rw (w.note-is, w.in-Ok-2.is, kept, lt-ltb block_limit w.in-Ok-2.count.0 (omega arith))
           (fronts (omega (arith, c.told-note, limit_short)) w.lay_limit.ensures.laid)
-      | in-Ok-3 w ↦
-          let kept : is_ok c.args.written ≡ true = search rules in
-          rw (w.note-is, w.in-Ok-2.is, kept, le-ltb block_limit w.in-Ok-2.count.0 (omega arith)) (record { count = refl; bytes = refl })
+      | in-Ok-3 w ↦ search rules
     ]
