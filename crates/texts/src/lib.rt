@@ -23,8 +23,9 @@ impl Text<'_> {
             return;
         }
         let n = text.len().min(self.buffer.len() - filled);
-        self.buffer[filled..filled + n].copy_from_slice(&text[..n]);
-        self.filled.0 += n;
+        let end = filled + n;
+        self.buffer[filled..end].copy_from_slice(&text[..n]);
+        self.filled = Count(end);
     }
 
     // Lays a number down in decimal, without zeros in front.
