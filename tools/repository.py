@@ -73,8 +73,9 @@ class Function:
         self.parameters = {}
         for part in parts(text[opens + 1 : closes]):
             word, _, kind = part.partition(":")
+            lent, word = re.match(r"(&mut |&|)(.*)", word.strip()).groups() if not kind else ("", word)
             word = word.replace("mut ", "").strip()
-            self.parameters[word] = kind.strip() or holder[:-2]
+            self.parameters[word] = kind.strip() or lent + holder[:-2]
         self.clauses = []
         i = closes + 1
         answer = re.compile(r"\s*->\s*((?:(?!\b(?:requires|ensures|ghost|where)\b)(?:\[[^][]*\]|[^{;]))*)").match(text, i)
@@ -116,7 +117,7 @@ def functions():
     found = []
     for path in sorted(glob.glob("crates/*/src/**/*.rt", recursive=True)):
         crate, text = path.split("/")[1], code_of(read(path))
-        holders = [(m.end() - 1, closing(text, m.end() - 1), m[1] + "::") for m in re.finditer(r"\bimpl\s+(\w+)\s*\{", text)]
+        holders = [(m.end() - 1, closing(text, m.end() - 1), m[1] + "::") for m in re.finditer(r"\bimpl\s+(\w+)(?:<'_>)?\s*\{", text)]
         traits = [(m.end() - 1, closing(text, m.end() - 1)) for m in re.finditer(r"\btrait\s+\w[^{;]*\{", text)]
         for m in re.finditer(r"\bfn\b\s*(\w*)", text):
             asked = any(opens < m.start() < closes for opens, closes in traits)

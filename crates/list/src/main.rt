@@ -5,7 +5,7 @@
 #![tactic(auto)]
 
 ghost use Rattle.std.specs.Prelude.{◌+◌, ◌≤◌, ◌≡◌, length, take, is_ok, IfOk, IfSome};
-ghost use Rattle.texts.specs.Texts.{LaysText};
+ghost use Rattle.texts.specs.Texts.{Lays};
 ghost use Rattle.listing.specs.Program.{input_room, following, text_of, note_of, limit_note};
 ghost use Rattle.listing.specs.Promise.{Fronts};
 ghost use Rattle.list.specs.Promise.{means_read, means_input, means_next};
@@ -14,6 +14,7 @@ use blocks::BLOCK_LIMIT;
 use listing::{TEXT_ROOM, lay_listing};
 use std::io::{self, Print, Read};
 use std::ops::ControlFlow;
+use texts::Text;
 use words::Count;
 
 // So much of the input is asked for: a byte more than a block may have, by which an input above the limit is seen to be so.
@@ -67,26 +68,29 @@ fn lay_text(known: io::Result<Count>, input: &[u8], text: &mut [u8; TEXT_ROOM]) 
 }
 
 // What is said of an input above the limit.
-fn lay_limit(note: &mut [u8]) -> Count
-    ensures { LaysText limit_note note.old 0 result.0 note.new }
+fn lay_limit(note: &mut Text)
+    ensures { Lays limit_note note.old note.new }
 {
-    let begun = texts::word(b"list: a block has at most ", note, Count(0));
-    let limit = texts::decimal(BLOCK_LIMIT as u64, note, begun);
-    texts::word(b" bytes, and the input has more\n", note, limit)
+    note.word(b"list: a block has at most ");
+    note.decimal(BLOCK_LIMIT as u64);
+    note.word(b" bytes, and the input has more\n");
 }
 
 // What is said on standard error: what failed, or that the input is above the limit, or nothing.
 fn lay_note(known: io::Result<Count>, written: io::Result<()>, note: &mut [u8; NOTE_ROOM]) -> Count
     ensures { Fronts (note_of (means_input known) (is_ok written)) note.old result.0 note.new }
 {
+    let mut note = Text {
+        buffer: note,
+        filled: Count(0),
+    };
     match known {
-        Err(_) => texts::word(b"list: the input can't be read\n", note, Count(0)),
-        Ok(_) if written.is_err() => {
-            texts::word(b"list: the listing can't be written\n", note, Count(0))
-        }
-        Ok(count) if BLOCK_LIMIT < count.0 => lay_limit(note),
-        Ok(_) => Count(0),
+        Err(_) => note.word(b"list: the input can't be read\n"),
+        Ok(_) if written.is_err() => note.word(b"list: the listing can't be written\n"),
+        Ok(count) if BLOCK_LIMIT < count.0 => lay_limit(&mut note),
+        Ok(_) => {}
     }
+    note.filled
 }
 
 fn main(rt: HostRuntime) {

@@ -7,14 +7,15 @@
 --   long_laid, rows_laid               the listing of a block above the limit, and that of one within it, whose header and rows were laid down
 --   fronts, fronts_within              a text that the buffer has room for, laid down where nothing was filled, stands at its front, within the buffer
 use Prim.Native.Nat.{ℕ, ◌+◌, ◌-◌, ◌≤◌, ◌<◌}
-use mathlib.Core.Path.{◌≡◌, refl, ◌∙◌}
+use mathlib.Core.Path.{◌≡◌, refl}
 use mathlib.Core.Logic.{inl}
 use mathlib.Core.List.{List, [], ◌++◌, append_assoc}
 use native.Mathlib.Omega.{arith}
-use lib.ListN.{length, take, drop, length-append}
-use lib.Seq.{length-sets, take_all}
-use Rattle.texts.specs.Texts.{ascii, decimal, LaysText}
-use Rattle.texts.proofs.LaysText.{joined_laid, front_laid, front_count}
+use lib.ListN.{length, drop, length-append}
+use lib.Seq.{take_all}
+use Rattle.texts.specs.Texts.{ascii, decimal, LaysText, Lays}
+use Rattle.texts.specs.declared.Text.{Text}
+use Rattle.texts.proofs.LaysText.{joined, joined_laid, front_laid, front_count}
 use Rattle.blocks.proofs.FromStart.{front_start}
 use Rattle.blocks.specs.Block.{block_limit}
 use Rattle.listing.specs.Listing.{row, text, text_room}
@@ -28,34 +29,29 @@ row_parts : (p : ℕ) (what : List ℕ) (v : ℕ) → decimal p ++ spaced what +
 unfolding row
 row_parts p what v = simp append_assoc
 
-pub row_laid : (p : ℕ) (what : List ℕ) (v : ℕ) {n n₁ n₂ n₃ r : ℕ} {s s₁ s₂ s₃ s' : List ℕ}
-    → LaysText (decimal p) s n n₁ s₁ → LaysText (spaced what) s₁ n₁ n₂ s₂ → LaysText (decimal v) s₂ n₂ n₃ s₃ → LaysText (ascii "\n") s₃ n₃ r s'
-    → LaysText (row p what v) s n r s'
-row_laid p what v a b c d = rw (← (row_parts p what v)) (joined_laid (joined_laid (joined_laid a b) c) d)
+pub row_laid : (p : ℕ) (what : List ℕ) (v : ℕ) {x y z u w : Text} → Lays (decimal p) x y → Lays (spaced what) y z → Lays (decimal v) z u → Lays (ascii "\n") u w
+    → Lays (row p what v) x w
+row_laid p what v a b c d = rw (← (row_parts p what v)) (joined (joined (joined a b) c) d)
 
-pub record LaidLeft (block text₀ : List ℕ) (filled at : ℕ) (text : List ℕ) (now : ℕ) : Type 0 where
-  pub same : length text ≡ length text₀
+pub record LaidLeft (block : List ℕ) (first : Text) (at : ℕ) (now : Text) : Type 0 where
   pub here : Here block at
-  pub rest : (r : ℕ) (s' : List ℕ) → LaysText (left block at) text now r s' → LaysText (left block 0) text₀ filled r s'
+  pub rest : (x : Text) → Lays (left block at) now x → Lays (left block 0) first x
 
-pub rows_begun : {block text : List ℕ} {filled : ℕ} → LaidLeft block text filled 0 text filled
-rows_begun {block} = record { same = refl; here = inl (front_start block); rest = λ r s' p. p }
+pub rows_begun : {block : List ℕ} {x : Text} → LaidLeft block x 0 x
+rows_begun {block} = record { here = inl (front_start block); rest = λ x p. p }
 
-pub row_more : {block text₀ text text' what : List ℕ} {filled at now now' v n : ℕ} → LaidLeft block text₀ filled at text now → Behind block at what v n
-    → LaysText (row at what v) text now now' text' → LaidLeft block text₀ filled (at + n) text' now'
-row_more {text = text} {what = what} {at = at} {now = now} {v = v} i b p = record {
-  same = rw p.bytes (length-sets text now (take (length text - now) (row at what v))) ∙ i.same;
-  here = b.here;
-  rest = λ r s' q. i.rest r s' (rw b.goes_on (joined_laid p q));
-}
+pub row_more : {block what : List ℕ} {first now then : Text} {at v n : ℕ} → LaidLeft block first at now → Behind block at what v n
+    → Lays (row at what v) now then → LaidLeft block first (at + n) then
+row_more i b p = record { here = b.here; rest = λ x q. i.rest x (rw b.goes_on (joined p q)) }
 
 -- nothing, laid down
-nothing_laid : (s : List ℕ) (n : ℕ) → LaysText [] s n n s
-nothing_laid s n = let e = take_all {A = ℕ} (length s - n) [] (omega arith) in record { count = rw e (omega arith); bytes = rw e }
+nothing_laid : (x : Text) → Lays [] x x
+nothing_laid x =
+    let e = take_all {A = ℕ} (length x.buffer.now - x.filled.0) [] (omega arith) in
+    record { lent = refl; laid = record { count = rw e (omega arith); bytes = rw e } }
 
-pub rows_ended : {block text₀ text : List ℕ} {filled at now : ℕ} → LaidLeft block text₀ filled at text now → left block at ≡ []
-    → LaysText (left block 0) text₀ filled now text
-rows_ended {text = text} {now = now} i e = i.rest now text (rw e (nothing_laid text now))
+pub rows_ended : {block : List ℕ} {first now : Text} {at : ℕ} → LaidLeft block first at now → left block at ≡ [] → Lays (left block 0) first now
+rows_ended {now = now} i e = i.rest now (rw e (nothing_laid now))
 
 -- where there is room for it at the front, a text stands there
 pub fronts : {t s s' : List ℕ} {r : ℕ} → length t ≤ length s → LaysText t s 0 r s' → Fronts t s r s'

@@ -1,7 +1,7 @@
 // The text of a listing: a row for each step through the block, laid down one behind the other.
 ghost use Rattle.std.specs.Prelude.{◌≤◌, ◌≡◌, length};
 ghost use Rattle.words.specs.Answer.{because};
-ghost use Rattle.texts.specs.Texts.{LaysText};
+ghost use Rattle.texts.specs.Texts.{Lays};
 ghost use Rattle.blocks.specs.Block.{block_limit};
 ghost use Rattle.blocks.specs.GroupsAndTail.{cut};
 ghost use Rattle.listing.specs.Listing.{fault, row as rowText, rows as rowsText};
@@ -11,6 +11,7 @@ ghost use Rattle.listing.specs.Promise.{LaysListing};
 use crate::TEXT_ROOM;
 use blocks::{BLOCK_LIMIT, Cursor, Rule, Step};
 use groups::Value;
+use texts::Text;
 use words::{Count, Fault, Place, Refusal};
 
 // What stands at a place: a group that is a number, one with a fault, or the tail.
@@ -48,39 +49,37 @@ fn row_at(block: &[u8], at: usize) -> Option<(What, u64, Count)>
 }
 
 // The word for what stands there, between two spaces.
-fn lay_word(what: What, text: &mut [u8], filled: Count) -> Count
-    ensures { LaysText (spaced (word_of what)) text.old filled.0 result.0 text.new }
+fn lay_word(what: What, text: &mut Text)
+    ensures { Lays (spaced (word_of what)) text.old text.new }
 {
     match what {
-        What::Number => texts::word(b" number ", text, filled),
-        What::NotShortest => texts::word(b" not-shortest ", text, filled),
-        What::Overflow => texts::word(b" overflow ", text, filled),
-        What::Tail => texts::word(b" tail ", text, filled),
+        What::Number => text.word(b" number "),
+        What::NotShortest => text.word(b" not-shortest "),
+        What::Overflow => text.word(b" overflow "),
+        What::Tail => text.word(b" tail "),
     }
 }
 
 // The line `AT WHAT VALUE`.
-fn lay_row(at: usize, what: What, value: u64, text: &mut [u8], filled: Count) -> Count
-    ensures { LaysText (rowText at (word_of what) value) text.old filled.0 result.0 text.new }
+fn lay_row(at: usize, what: What, value: u64, text: &mut Text)
+    ensures { Lays (rowText at (word_of what) value) text.old text.new }
 {
-    let placed = texts::decimal(at as u64, text, filled);
-    let named = lay_word(what, text, placed);
-    let valued = texts::decimal(value, text, named);
-    texts::word(b"\n", text, valued)
+    text.decimal(at as u64);
+    lay_word(what, text);
+    text.decimal(value);
+    text.word(b"\n");
 }
 
 // The rows of the whole block.
-fn lay_rows(block: &[u8], text: &mut [u8], filled: Count) -> Count
+fn lay_rows(block: &[u8], text: &mut Text)
     requires { length block.now ≤ block_limit }
-    ensures { LaysText (rowsText 0 (cut block.now).groups (cut block.now).tail) text.old filled.0 result.0 text.new }
+    ensures { Lays (rowsText 0 (cut block.now).groups (cut block.now).tail) text.old text.new }
 {
     let mut at: usize = 0;
-    let mut so_far = filled;
     while let Some((what, value, count)) = row_at(block, at) {
-        so_far = lay_row(at, what, value, text, so_far);
+        lay_row(at, what, value, text);
         at += count.0;
     }
-    so_far
 }
 
 // Puts the listing of the block to the front of the buffer, and answers how many bytes it has. Above the limit it is the one line
@@ -88,9 +87,15 @@ fn lay_rows(block: &[u8], text: &mut [u8], filled: Count) -> Count
 pub fn lay_listing(block: &[u8], text: &mut [u8; TEXT_ROOM]) -> Count
     ensures { LaysListing block.now text.old result.0 text.new }
 {
+    let mut text = Text {
+        buffer: text,
+        filled: Count(0),
+    };
     if BLOCK_LIMIT < block.len() {
-        return texts::word(b"refused 7\n", text, Count(0));
+        text.word(b"refused 7\n");
+        return text.filled;
     }
-    let headed = texts::word(b"place what value\n", text, Count(0));
-    lay_rows(block, text, headed)
+    text.word(b"place what value\n");
+    lay_rows(block, &mut text);
+    text.filled
 }

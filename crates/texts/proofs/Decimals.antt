@@ -14,7 +14,8 @@ use borrow.Author.Tests.{lt-ltb, le-ltb}
 use lib.ListN.{length, length-append}
 use Rattle.io.specs.Digits.{last_digits, hex_digit_ascii, IsDigitCount}
 use Rattle.words.proofs.Cases.{by_order}
-use Rattle.texts.specs.Texts.{decimal, decimal_within, LaysText, LaysDecimal}
+use Rattle.texts.specs.Texts.{decimal, decimal_within, Lays}
+use Rattle.texts.specs.declared.Text.{Text}
 
 -- l is the digits of v
 pub data DigitsOf : ℕ → List ℕ → Type 0 where
@@ -67,7 +68,7 @@ fewest : (k v : ℕ) → IsDigitCount 10 1 v k → last_digits 10 k v ≡ decima
 fewest k v f = unique (digits_spelled k v f) (spelled v)
 
 -- those digits, laid down
-pub lays_decimal : (k v : ℕ) {t s s' : List ℕ} {n r : ℕ} → IsDigitCount 10 1 v k → t ≡ last_digits 10 k v → LaysText t s n r s' → LaysDecimal v s n r s'
+pub lays_decimal : (k v : ℕ) {t : List ℕ} {x y : Text} → IsDigitCount 10 1 v k → t ≡ last_digits 10 k v → Lays t x y → Lays (decimal v) x y
 lays_decimal k v f e p = rw (← (fewest k v f), ← e) p
 
 at_most : (k : ℕ) {v : ℕ} {l : List ℕ} → DigitsOf v l → v < 10 ^ suc k → length l ≤ suc k

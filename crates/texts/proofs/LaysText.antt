@@ -1,6 +1,6 @@
 -- Texts laid down in a buffer, one behind the other.
 --
---   joined_laid                 a text and one behind it are laid down as one
+--   joined_laid, joined         a text and one behind it are laid down as one
 --   none_laid, part_laid        a text past the end of the buffer, and where as many of its bytes as fit are copied there
 --   front_count, front_laid     where there is room for it at the front, as many bytes are filled as a text has, and all of it stands there
 use Prim.Native.Nat.{ℕ, zero, suc, ◌+◌, ◌-◌, ◌≤◌, ◌<◌, min}
@@ -13,7 +13,8 @@ use borrow.Rule.Slice.PartMut.{put_mid}
 use Rattle.std.proofs.Common.{append_assoc}
 use Rattle.std.proofs.lemmas.List.{take_min}
 use Rattle.words.proofs.Lays.{sets_append}
-use Rattle.texts.specs.Texts.{LaysText}
+use Rattle.texts.specs.Texts.{LaysText, Lays}
+use Rattle.texts.specs.declared.Text.{Text}
 
 take_append : (n : ℕ) (a b : List ℕ) → take n (a ++ b) ≡ take n a ++ take (n - length a) b
 take_append zero [] b = refl
@@ -37,6 +38,9 @@ module _ {a b s s' s'' : List ℕ} {n r r' : ℕ} (p : LaysText a s n r s') (q :
     count = rw parts (rw (length-append (take (length s - n) a) (take (length s' - r) b)) (omega (arith, p.count, q.count)));
     bytes = rw (parts, sets_append (take (length s - n) a) (take (length s' - r) b) s n, ← p.count, ← p.bytes) q.bytes;
   }
+
+pub joined : {a b : List ℕ} {x y z : Text} → Lays a x y → Lays b y z → Lays (a ++ b) x z
+joined p q = record { lent = q.lent ∙ p.lent; laid = joined_laid p.laid q.laid }
 
 -- nothing is laid down past the end of the buffer
 pub none_laid : {t s : List ℕ} {n : ℕ} → length s < n → LaysText t s n n s

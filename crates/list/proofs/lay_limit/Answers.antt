@@ -1,6 +1,6 @@
 -- `list::lay_limit` keeps what it promises: the parts of the line, one behind the other.
-use Rattle.texts.proofs.LaysText.{joined_laid}
+use Rattle.texts.proofs.LaysText.{joined}
 use Rattle.list.proofs.lay_limit.Goals as goal
 
 pub returns : goal.returns
-returns c = joined_laid (joined_laid c.word-begun.ensures c.decimal-limit.ensures) c.word.ensures
+returns c = joined (joined c.word.ensures c.decimal.ensures) c.word-2.ensures

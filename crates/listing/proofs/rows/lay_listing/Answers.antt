@@ -4,7 +4,7 @@ use Rattle.listing.proofs.Laid.{long_laid, rows_laid}
 use Rattle.listing.proofs.rows.lay_listing.Goals as goal
 
 pub returns-then-block-gt-BLOCK_LIMIT : goal.returns-then-block-gt-BLOCK_LIMIT
-returns-then-block-gt-BLOCK_LIMIT c = long_laid _ _ c.told-text (omega arith) c.word.ensures
+returns-then-block-gt-BLOCK_LIMIT c = long_laid _ _ c.told-text (omega arith) c.word.ensures.laid
 
 pub returns : goal.returns
-returns c = rows_laid _ _ c.told-text (omega arith) c.word-headed.ensures c.lay_rows.ensures
+returns c = rows_laid _ _ c.told-text (omega arith) c.word-2.ensures.laid c.lay_rows.ensures.laid

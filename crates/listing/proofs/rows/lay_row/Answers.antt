@@ -3,4 +3,4 @@ use Rattle.listing.proofs.Laid.{row_laid}
 use Rattle.listing.proofs.rows.lay_row.Goals as goal
 
 pub returns : goal.returns
-returns c = row_laid _ _ _ c.decimal-placed.ensures c.lay_word-named.ensures c.decimal-valued.ensures c.word.ensures
+returns c = row_laid _ _ _ c.decimal.ensures c.lay_word.ensures c.decimal-2.ensures c.word.ensures

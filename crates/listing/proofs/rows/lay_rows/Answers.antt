@@ -22,7 +22,7 @@ pub loop-what-smaller : goal.loop-what-smaller
 loop-what-smaller c = let b = stands c.requires c.loop-what.invariant.here c.in-Some.ensures in omega (arith, b.within, b.some)
 
 pub loop-what-preserved : goal.loop-what-preserved
-loop-what-preserved c = row_more c.loop-what.invariant (stands c.requires c.loop-what.invariant.here c.in-Some.ensures) c.lay_row-so_far.ensures
+loop-what-preserved c = row_more c.loop-what.invariant (stands c.requires c.loop-what.invariant.here c.in-Some.ensures) c.lay_row.ensures
 
 pub returns : goal.returns
 returns c = rows_ended c.loop-what.invariant (none_left c.requires c.loop-what.invariant.here c.in_default.ensures)

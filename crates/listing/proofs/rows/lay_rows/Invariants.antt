@@ -4,7 +4,7 @@ use Rattle.listing.proofs.Laid.{LaidLeft}
 use Rattle.listing.proofs.rows.lay_rows.Given as goal
 
 abbrev pub invariant-loop-what : goal.invariant-loop-what
-invariant-loop-what l = LaidLeft l.block l.initial.text l.initial.so_far.0 l.at l.text l.so_far.0
+invariant-loop-what l = LaidLeft l.block l.initial.text l.at l.text
 
 abbrev pub decreases-loop-what : goal.decreases-loop-what
 decreases-loop-what l = length l.block - l.at
