@@ -6,7 +6,7 @@ use mathlib.Core.Path.{◌≡◌, refl, sym, ◌∙◌}
 use mathlib.Core.List.{List, ◌++◌}
 use lib.ListN.{length, take, drop}
 use lib.Seq.{sets}
-use Rattle.texts.specs.Texts.{decimal, Lays}
+use Rattle.texts.specs.Texts.{decimal, LaysText, Lays}
 use Rattle.texts.specs.declared.Text.{Text}
 use Rattle.texts.proofs.Decimals.{decimal_small, decimal_large}
 use Rattle.listing.specs.Listing.{text}
@@ -17,15 +17,19 @@ use Rattle.claims.specs.OfListing.{OfListing}
 use Rattle.claims.proofs.Text.{front_enough, text_document}
 use Rattle.claims.proofs.Program.{taken, silent}
 
-some_text : (t : List ℕ) (x : Text) → (y : Text) × Lays t x y
-some_text t x =
-    let l = take (length x.buffer.now - x.filled.0) t in (
-      record { buffer = record x.buffer { now = sets x.buffer.now x.filled.0 l }; filled = record { 0 = x.filled.0 + length l } },
-      record { lent = refl; laid = record { count = refl; bytes = refl } },
-    )
+some_text : (t s : List ℕ) (n : ℕ) → (r : ℕ) × (out : List ℕ) × LaysText t s n r out
+some_text t s n = (n + length (take (length s - n) t), sets s n (take (length s - n) t), record { count = refl; bytes = refl })
 
-one_text : (t : List ℕ) (x y y' : Text) → Lays t x y → Lays t x y' → (y.filled.0 ≡ y'.filled.0) × (y.buffer.now ≡ y'.buffer.now)
-one_text t x y y' a b = (a.laid.count ∙ sym b.laid.count, a.laid.bytes ∙ sym b.laid.bytes)
+one_text : (t s : List ℕ) (n r r' : ℕ) (out out' : List ℕ) → LaysText t s n r out → LaysText t s n r' out' → (r ≡ r') × (out ≡ out')
+one_text t s n r r' out out' a b = (a.count ∙ sym b.count, a.bytes ∙ sym b.bytes)
+
+some_laid : (t : List ℕ) (x : Text) → (y : Text) × Lays t x y
+some_laid t x =
+    let some = some_text t x.buffer.now x.filled.0 in
+    (record { buffer = record x.buffer { now = some.1 }; filled = record { 0 = some.0 } }, record { lent = refl; laid = some.2 })
+
+one_laid : (t : List ℕ) (x y y' : Text) → Lays t x y → Lays t x y' → (y.filled.0 ≡ y'.filled.0) × (y.buffer.now ≡ y'.buffer.now)
+one_laid t x y y' a b = one_text t x.buffer.now x.filled.0 y.filled.0 y'.filled.0 y.buffer.now y'.buffer.now a.laid b.laid
 
 pub listing : OfListing
 listing = record {
@@ -45,11 +49,15 @@ listing = record {
   met = record {
     text = some_text;
     decimal = λ v. some_text (decimal v);
+    word_laid = some_laid;
+    number_laid = λ v. some_laid (decimal v);
     listing = λ s before. (length (text s), text s ++ drop (length (text s)) before, record { count = refl; bytes = refl });
   };
   one = record {
     text = one_text;
     decimal = λ v. one_text (decimal v);
+    word_laid = one_laid;
+    number_laid = λ v. one_laid (decimal v);
     listing = λ s before r r' after after' a b. (a.count ∙ sym b.count, a.bytes ∙ sym b.bytes);
   };
 }

@@ -13,7 +13,7 @@
 --   ListingMet, ListingOne   an answer meets each promise, and no second
 --   OfListing                all of it
 use Rattle.std.specs.Prelude.{ℕ, suc, ◌+◌, ◌/◌, ◌%◌, ◌≤◌, ◌<◌, Bool, true, ◌≡◌, List, [], ◌∷◌, ◌++◌, ◌↔◌, ℤ, pos, negsuc, length, take, drop, replicate}
-use Rattle.texts.specs.Texts.{ascii, decimal, Lays, LaysDecimal}
+use Rattle.texts.specs.Texts.{ascii, decimal, LaysText, LaysDecimal, Lays, LaysNumber}
 use Rattle.texts.specs.declared.Text.{Text}
 use Rattle.blocks.specs.Block.{block_limit}
 use Rattle.blocks.specs.GroupsAndTail.{GroupAt, TailAt, cut}
@@ -72,14 +72,18 @@ Silent = (i : Known) (w : Bool) → (note_of i w ≡ []) ↔ ((n : ℕ) × (i �
 
 -- Each promise is met by some answer, with some final content of what was lent, on every input: no claim over promises is empty.
 pub record ListingMet : Type 0 where
-  pub text : (t : List ℕ) (x : Text) → (y : Text) × Lays t x y
-  pub decimal : (v : ℕ) (x : Text) → (y : Text) × LaysDecimal v x y
+  pub text : (t s : List ℕ) (n : ℕ) → (r : ℕ) × (out : List ℕ) × LaysText t s n r out
+  pub decimal : (v : ℕ) (s : List ℕ) (n : ℕ) → (r : ℕ) × (out : List ℕ) × LaysDecimal v s n r out
+  pub word_laid : (t : List ℕ) (x : Text) → (y : Text) × Lays t x y
+  pub number_laid : (v : ℕ) (x : Text) → (y : Text) × LaysNumber v x y
   pub listing : (s before : List ℕ) → (r : ℕ) × (after : List ℕ) × LaysListing s before r after
 
 -- And by no second: no second answer, and no second final content of what was lent.
 pub record ListingOne : Type 0 where
-  pub text : (t : List ℕ) (x y y' : Text) → Lays t x y → Lays t x y' → (y.filled.0 ≡ y'.filled.0) × (y.buffer.now ≡ y'.buffer.now)
-  pub decimal : (v : ℕ) (x y y' : Text) → LaysDecimal v x y → LaysDecimal v x y' → (y.filled.0 ≡ y'.filled.0) × (y.buffer.now ≡ y'.buffer.now)
+  pub text : (t s : List ℕ) (n r r' : ℕ) (out out' : List ℕ) → LaysText t s n r out → LaysText t s n r' out' → (r ≡ r') × (out ≡ out')
+  pub decimal : (v : ℕ) (s : List ℕ) (n r r' : ℕ) (out out' : List ℕ) → LaysDecimal v s n r out → LaysDecimal v s n r' out' → (r ≡ r') × (out ≡ out')
+  pub word_laid : (t : List ℕ) (x y y' : Text) → Lays t x y → Lays t x y' → (y.filled.0 ≡ y'.filled.0) × (y.buffer.now ≡ y'.buffer.now)
+  pub number_laid : (v : ℕ) (x y y' : Text) → LaysNumber v x y → LaysNumber v x y' → (y.filled.0 ≡ y'.filled.0) × (y.buffer.now ≡ y'.buffer.now)
   pub listing : (s before : List ℕ) (r r' : ℕ) (after after' : List ℕ) → LaysListing s before r after → LaysListing s before r' after'
       → (r ≡ r') × (after ≡ after')
 

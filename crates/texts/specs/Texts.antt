@@ -5,8 +5,9 @@
 --                            bound on how many there can be
 --   LaysText t s n r s'      n bytes of the buffer s are filled: as many bytes of the text t as there is room for stand behind them, all else is kept, and r is how
 --                            many then are filled
+--   LaysDecimal v s n r s'   so stands the number v in decimal
 --   Lays t x y               so stands the text t in y, where x was: behind what x has filled, in the same buffer
---   LaysDecimal v x y        so stands the number v in decimal
+--   LaysNumber v x y         so stands the number v in decimal
 use Rattle.std.specs.Prelude.{ℕ, zero, suc, ◌+◌, ◌-◌, ◌/◌, ◌%◌, true, false, List, [], ◌∷◌, ◌++◌, ◌≡◌, ltb, length, take}
 use Prim.Native.Char.{code}
 use Prim.Native.String.{String, len, char_at}
@@ -34,9 +35,12 @@ pub record LaysText (t s : List ℕ) (n r : ℕ) (s' : List ℕ) : Type 0 where
   pub count : r ≡ n + length (take (length s - n) t)
   pub bytes : s' ≡ sets s n (take (length s - n) t)
 
+abbrev pub LaysDecimal : ℕ → List ℕ → ℕ → ℕ → List ℕ → Type 0
+LaysDecimal v s n r s' = LaysText (decimal v) s n r s'
+
 pub record Lays (t : List ℕ) (x y : Text) : Type 0 where
   pub lent : y.buffer.ghost_name ≡ x.buffer.ghost_name
   pub laid : LaysText t x.buffer.now x.filled.0 y.filled.0 y.buffer.now
 
-abbrev pub LaysDecimal : ℕ → Text → Text → Type 0
-LaysDecimal v x y = Lays (decimal v) x y
+abbrev pub LaysNumber : ℕ → Text → Text → Type 0
+LaysNumber v x y = Lays (decimal v) x y

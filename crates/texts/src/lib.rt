@@ -2,7 +2,7 @@
 // buffer has no room for are left out.
 #![tactic(auto)]
 
-ghost use Rattle.texts.specs.Texts.{Lays, LaysDecimal};
+ghost use Rattle.texts.specs.Texts.{Lays, LaysNumber};
 
 use words::Count;
 
@@ -30,7 +30,7 @@ impl Text<'_> {
 
     // Lays a number down in decimal, without zeros in front.
     pub fn decimal(&mut self, v: u64)
-        ensures { LaysDecimal v self.old self.new }
+        ensures { LaysNumber v self.old self.new }
     {
         let mut digits = [0u8; 20];
         let count = io::decimal(v, &mut digits);
