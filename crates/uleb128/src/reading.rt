@@ -30,6 +30,7 @@ struct Width {
 
 impl Width {
     const OF_64_BITS: Width = Width { most: 10, top: 1 };
+
     const OF_32_BITS: Width = Width { most: 5, top: 15 };
 
     // Too large for the width: the byte at the greatest length decides it.
