@@ -49,7 +49,7 @@ impl Width {
     }
 
     // A number of at most most bytes, whose last byte at that length is at most top. One byte alone was read before.
-    fn read_several(self, bytes: &[u8], start: Place) -> Result<(u64, Count), Fault>
+    fn parse_several(self, bytes: &[u8], start: Place) -> Result<(u64, Count), Fault>
         requires { NotOneByte bytes.now start.0 }
         ensures { Reads (unsigned self.most self.top) bytes.now start.0 (means_read result) }
     {
@@ -79,14 +79,14 @@ impl Width {
     }
 
     // The same of one byte, too, which is asked first: small, it becomes part of the two readers.
-    fn read(self, bytes: &[u8], start: Place) -> Result<(u64, Count), Fault>
+    fn parse(self, bytes: &[u8], start: Place) -> Result<(u64, Count), Fault>
         ensures { Reads (unsigned self.most self.top) bytes.now start.0 (means_read result) }
     {
         let at = start.0;
         if at < bytes.len() && !is_high_8_bit_set(bytes[at]) {
             return Ok((bytes[at] as u64, Count(1)));
         }
-        self.read_several(bytes, start)
+        self.parse_several(bytes, start)
     }
 }
 
@@ -95,13 +95,13 @@ impl Width {
 pub fn read_u64(bytes: &[u8], start: Place) -> Result<(u64, Count), Fault>
     ensures { ReadsU64 bytes.now start.0 result }
 {
-    Width::OF_64_BITS.read(bytes, start)
+    Width::OF_64_BITS.parse(bytes, start)
 }
 
 // The same for a number of 32 bits.
 pub fn read_u32(bytes: &[u8], start: Place) -> Result<(u32, Count), Fault>
     ensures { ReadsU32 bytes.now start.0 result }
 {
-    let (v, n) = Width::OF_32_BITS.read(bytes, start)?;
+    let (v, n) = Width::OF_32_BITS.parse(bytes, start)?;
     Ok((v as u32, n))
 }

@@ -1,9 +1,9 @@
--- `uleb128::Width::read_several` keeps what it promises inside the crate: at each answer, what the walk tells and the tests on the
+-- `uleb128::Width::parse_several` keeps what it promises inside the crate: at each answer, what the walk tells and the tests on the
 -- way are a law of `Widths`.
 use Rattle.std.proofs.Common.{arith}
 use Rattle.groups.proofs.FromWalk.{walk_tells, open_inside, overrun_inside, closed_inside, closed_several}
 use Rattle.uleb128.proofs.Widths.{says_past, says_end, says_overrun, large_there, says_large, not_large, says_many, says_number, number_fits}
-use Rattle.uleb128.proofs.reading.Width.read_several.Goals as goal
+use Rattle.uleb128.proofs.reading.Width.parse_several.Goals as goal
 
 pub returns-in-Past : goal.returns-in-Past
 returns-in-Past c = says_past _ _ c.args.self.wide _ _ (walk_tells _ _ c.walk.ensures c.in-Past.is)
