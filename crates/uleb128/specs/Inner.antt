@@ -1,4 +1,4 @@
--- What the functions inside the crate ask.
+-- What is true of the width inside the crate, and what its reader asks.
 --
 --   Wide most top     a width whose numbers fit 64 bits
 --   NotOneByte s at   no byte below 128 stands at this place of s

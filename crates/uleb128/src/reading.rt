@@ -20,65 +20,74 @@ fn number(sum: u64, weight: u64, high: usize, last: u8) -> (u64, Count)
     (sum + part, Count(high + 1))
 }
 
-// Too large for the width: the byte at the greatest length decides it.
-fn overflow(at: usize, most: usize) -> Fault
-    requires { (0 < most) × (at + most < 2 ^ 64) }
-    ensures { result ≡ record { 0 = Refusal.Overflow; 1 = record { 0 = at + (most - 1) } } }
-{
-    Fault(Refusal::Overflow, Place(at + (most - 1)))
+// A width: the most bytes of a number, and the largest last byte allowed at that length.
+#[derive(Clone, Copy)]
+struct Width {
+    most: usize,
+    top: u8,
+    ghost wide: { Wide most top },
 }
 
-// Whether n bytes that end in last are too large for the width.
-fn too_large(n: usize, last: u8, most: usize, top: u8) -> bool
-    ensures { result ≡ pick (ltb n most) false (either (ltb most n) (ltb top last)) }
-{
-    most <= n && (most < n || top < last)
-}
+impl Width {
+    const OF_64_BITS: Width = Width { most: 10, top: 1 };
 
-// A number of at most most bytes, whose last byte at that length is at most top. One byte alone was read before.
-fn read_several(bytes: &[u8], start: Place, most: usize, top: u8) -> Result<(u64, Count), Fault>
-    requires { Wide most top × NotOneByte bytes.now start.0 }
-    ensures { Reads (unsigned most top) bytes.now start.0 (means_read result) }
-{
-    let at = start.0;
-    match walk(bytes, start) {
-        Walked::Past => Err(Fault(Refusal::Place, start)),
-        Walked::Open(count) => {
-            let high = count.0;
-            if high < most {
-                return Err(Fault(Refusal::End, Place(bytes.len())));
+    const OF_32_BITS: Width = Width { most: 5, top: 15 };
+
+    // Too large for the width: the byte at the greatest length decides it.
+    fn overflow(self, at: usize) -> Fault
+        requires { at + self.most < 2 ^ 64 }
+        ensures { result ≡ record { 0 = Refusal.Overflow; 1 = record { 0 = at + (self.most - 1) } } }
+    {
+        Fault(Refusal::Overflow, Place(at + (self.most - 1)))
+    }
+
+    // Whether n bytes that end in last are too large for the width.
+    fn too_large(self, n: usize, last: u8) -> bool
+        ensures { result ≡ pick (ltb n self.most) false (either (ltb self.most n) (ltb self.top last)) }
+    {
+        self.most <= n && (self.most < n || self.top < last)
+    }
+
+    // A number of at most most bytes, whose last byte at that length is at most top. One byte alone was read before.
+    fn parse_several(self, bytes: &[u8], start: Place) -> Result<(u64, Count), Fault>
+        requires { NotOneByte bytes.now start.0 }
+        ensures { Reads (unsigned self.most self.top) bytes.now start.0 (means_read result) }
+    {
+        let at = start.0;
+        match walk(bytes, start) {
+            Walked::Past => Err(Fault(Refusal::Place, start)),
+            Walked::Open(Count(high)) if high < self.most => {
+                Err(Fault(Refusal::End, Place(bytes.len())))
             }
-            Err(overflow(at, most))
-        }
-        Walked::Long => Err(overflow(at, most)),
-        Walked::Closed {
-            sum,
-            weight,
-            high: count,
-            last,
-        } => {
-            let high = count.0;
-            if too_large(high + 1, last, most, top) {
-                return Err(overflow(at, most));
+            Walked::Open(_) => Err(self.overflow(at)),
+            Walked::Long => Err(self.overflow(at)),
+            Walked::Closed {
+                sum,
+                weight,
+                high: Count(high),
+                last,
+            } => {
+                if self.too_large(high + 1, last) {
+                    return Err(self.overflow(at));
+                }
+                if last < 1 {
+                    return Err(Fault(Refusal::NotShortest, Place(at + high)));
+                }
+                Ok(number(sum, weight, high, last))
             }
-            if last < 1 {
-                return Err(Fault(Refusal::NotShortest, Place(at + high)));
-            }
-            Ok(number(sum, weight, high, last))
         }
     }
-}
 
-// The same of one byte, too, which is asked first: small, it becomes part of the two readers.
-fn read_width(bytes: &[u8], start: Place, most: usize, top: u8) -> Result<(u64, Count), Fault>
-    requires { Wide most top }
-    ensures { Reads (unsigned most top) bytes.now start.0 (means_read result) }
-{
-    let at = start.0;
-    if at < bytes.len() && !is_high_8_bit_set(bytes[at]) {
-        return Ok((bytes[at] as u64, Count(1)));
+    // The same of one byte, too, which is asked first: small, it becomes part of the two readers.
+    fn parse(self, bytes: &[u8], start: Place) -> Result<(u64, Count), Fault>
+        ensures { Reads (unsigned self.most self.top) bytes.now start.0 (means_read result) }
+    {
+        let at = start.0;
+        if at < bytes.len() && !is_high_8_bit_set(bytes[at]) {
+            return Ok((bytes[at] as u64, Count(1)));
+        }
+        self.parse_several(bytes, start)
     }
-    read_several(bytes, start, most, top)
 }
 
 // The number whose shortest form stands at the start, with its count of bytes; else 4, 1, 2 or 3, each with the place of the byte
@@ -86,13 +95,13 @@ fn read_width(bytes: &[u8], start: Place, most: usize, top: u8) -> Result<(u64, 
 pub fn read_u64(bytes: &[u8], start: Place) -> Result<(u64, Count), Fault>
     ensures { ReadsU64 bytes.now start.0 result }
 {
-    read_width(bytes, start, 10, 1)
+    Width::OF_64_BITS.parse(bytes, start)
 }
 
 // The same for a number of 32 bits.
 pub fn read_u32(bytes: &[u8], start: Place) -> Result<(u32, Count), Fault>
     ensures { ReadsU32 bytes.now start.0 result }
 {
-    let (v, n) = read_width(bytes, start, 5, 15)?;
+    let (v, n) = Width::OF_32_BITS.parse(bytes, start)?;
     Ok((v as u32, n))
 }
