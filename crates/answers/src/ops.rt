@@ -18,6 +18,14 @@ const MOST_NUMBERS: u64 = 65536;
 // What each number of an answer slice is before it is filled.
 const UNFILLED: u64 = 7777777777777777777;
 
+// An answer slice of so many numbers, if it may have so many.
+fn answer_slice(alloc: Global, room: u64) -> Result<Option<Vec<u64>>, AllocError> {
+    if MOST_NUMBERS < room {
+        return Ok(None);
+    }
+    Ok(Some(vec![in alloc; UNFILLED; room as usize]?))
+}
+
 fn length_u32(v: u64) -> Option<Count> {
     let v = u32::try_from(v).ok()?;
     Some(uleb128::length_u32(v))
@@ -69,10 +77,9 @@ fn read_strict(
     room: u64,
     block: &[u8],
 ) -> Result<Option<Filled<NotRead>>, AllocError> {
-    if MOST_NUMBERS < room {
+    let Some(mut slice) = answer_slice(alloc, room)? else {
         return Ok(None);
-    }
-    let mut slice = vec![in alloc; UNFILLED; room as usize]?;
+    };
     let answer = lists::read_strict(block, &mut slice);
     Ok(Some(Filled(answer, slice)))
 }
@@ -84,14 +91,13 @@ fn read_phrase(
     count: u64,
     bytes: &mut [u8],
 ) -> Result<Option<Filled<Refusal>>, AllocError> {
-    if MOST_NUMBERS < room {
-        return Ok(None);
-    }
     let Some((listed, _)) = take_listed(count, bytes) else {
         return Ok(None);
     };
+    let Some(mut slice) = answer_slice(alloc, room)? else {
+        return Ok(None);
+    };
     let numbers = numbers_of(alloc, listed)?;
-    let mut slice = vec![in alloc; UNFILLED; room as usize]?;
     let answer = phrases::read_phrase(&numbers, &mut slice);
     Ok(Some(Filled(answer, slice)))
 }
