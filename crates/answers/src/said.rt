@@ -62,15 +62,20 @@ impl Say for bool {
     }
 }
 
+// A count, whatever it counts.
+fn say_count(n: usize, out: &mut impl Write) -> io::Result<()> {
+    write!(out, "count {n}")
+}
+
 impl Say for Count {
     fn say(self, out: &mut impl Write) -> io::Result<()> {
-        write!(out, "count {}", self.0)
+        say_count(self.0, out)
     }
 }
 
 impl Say for Numbers {
     fn say(self, out: &mut impl Write) -> io::Result<()> {
-        write!(out, "count {}", self.0)
+        say_count(self.0, out)
     }
 }
 
@@ -91,11 +96,12 @@ impl<V: Display + Drop> Say for (V, Count) {
 impl Say for Step {
     fn say(self, out: &mut impl Write) -> io::Result<()> {
         match self {
-            Step::Number(Value::Unsigned(v), Count(n), next) => {
-                write!(out, "number {v} {n} {}", next.place.0)
-            }
-            Step::Number(Value::Signed(v), Count(n), next) => {
-                write!(out, "number {v} {n} {}", next.place.0)
+            Step::Number(value, count, next) => {
+                match value {
+                    Value::Unsigned(v) => (v, count).say(out)?,
+                    Value::Signed(v) => (v, count).say(out)?,
+                }
+                write!(out, " {}", next.place.0)
             }
             Step::Gap(Fault(reason, Place(at)), Count(n), next) => {
                 write!(out, "gap {reason} {n} {} {at}", next.place.0)
@@ -108,11 +114,7 @@ impl Say for Step {
 
 impl Say for Turn {
     fn say(self, out: &mut impl Write) -> io::Result<()> {
-        match self {
-            Turn::Tighten => write!(out, "tighten"),
-            Turn::Loosen => write!(out, "loosen"),
-            Turn::Hold => write!(out, "hold"),
-        }
+        write!(out, "{self}")
     }
 }
 
@@ -127,7 +129,7 @@ impl Say for ReadEntry {
                 },
                 Place(end),
             ) => { write!(out, "entry {segment} {sentence} {turn} {end}") }
-            ReadEntry::Bad(refusal, end) => Fault(refusal, end).say(out),
+            ReadEntry::Bad(refusal, Place(end)) => write!(out, "refused {refusal} {end}"),
         }
     }
 }

@@ -9,7 +9,6 @@ use groups::Value;
 use lists::{NotRead, Numbers};
 use slips::{Range, Setting};
 use std::io::{self, Print};
-use turns::Turn;
 use words::{Count, Fault, Place, Refusal};
 
 // Says what a writer answered. The next number, setting or entry goes count bytes behind it; a refused write has changed no byte.
@@ -53,9 +52,7 @@ fn read_turn(out: &impl Print, bytes: &[u8], place: Place, thread: u8) -> io::Re
 
 fn say_meaning(out: &impl Print, quarters: i64, thread: u8) -> io::Result<()> {
     match turns::means(quarters, thread) {
-        Ok(Turn::Tighten) => println!(out; "tighten"),
-        Ok(Turn::Loosen) => println!(out; "loosen"),
-        Ok(Turn::Hold) => println!(out; "hold"),
+        Ok(turn) => println!(out; "{turn}"),
         Err(refusal) => println!(out; "refused {refusal}"),
     }
 }

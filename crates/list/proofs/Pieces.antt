@@ -14,7 +14,7 @@ use Rattle.std.specs.Io.{ReadsAtMost}
 use Rattle.std.specs.Io.KnownBytes.{Consumes, IsAtEnd, ReadConsumes}
 use Rattle.words.proofs.Cases.{by_order}
 use Rattle.listing.specs.Program.{bytes, more, ended, input_room, following}
-use Rattle.list.specs.Promise.{means_read}
+use Rattle.list.specs.Promise.{means_moved}
 
 joined : (n k : ℕ) (s part rest : List ℕ) → n ≤ length s → k ≤ length part → take (n + k) (take n s ++ (part ++ rest)) ≡ take n s ++ take k part
 joined n k s part rest h l =
@@ -36,7 +36,7 @@ first_bytes w (Some xs) (Some ys) s p (inr f) l = sym (ap (λ k. take k xs) (sym
 
 module _ (n m : ℕ) (a b b' : Option (List ℕ)) (s part rest : List ℕ) (w : ℕ) (asked : w ≡ input_room) (room : length s ≡ w) (there : n < input_room)
     (lost : Consumes a b (take n s)) where
-  pub piece_more : {E : Type 0} (r : Result ℕ E) → ReadsAtMost r part → ReadConsumes b b' r part → more m ≡ following n (means_read r)
+  pub piece_more : {E : Type 0} (r : Result ℕ E) → ReadsAtMost r part → ReadConsumes b b' r part → more m ≡ following n (means_moved r)
       → (m < input_room) × Consumes a b' (take m (take n s ++ (part ++ rest)))
   piece_more (Ok zero) h q e = let z : ◌≡◌ {A = ℕ} 0 1 = cc in absurd (omega arith)
   piece_more (Ok (suc k)) h q e =
@@ -65,7 +65,7 @@ module _ (n m : ℕ) (a b b' : Option (List ℕ)) (s part rest : List ℕ) (w : 
   part_length = length-take-le (length s - n) (drop n s) (omega (arith, length-drop n s))
 
   pub piece_ended : {E : Type 0} (r : Result ℕ E) → length part ≡ length (take (length s - n) (drop n s)) → ReadsAtMost r part
-      → ReadConsumes b b' r part → ended (bytes m) ≡ following n (means_read r) → IfSome a (λ xs. take m (take n s ++ (part ++ rest)) ≡ take w xs)
+      → ReadConsumes b b' r part → ended (bytes m) ≡ following n (means_moved r) → IfSome a (λ xs. take m (take n s ++ (part ++ rest)) ≡ take w xs)
   piece_ended (Ok zero) long h q e =
       let i : m ≡ n = cc in
       whole 0 h.0 (omega (arith, i)) (omega (arith, i, asked)) q.0 (inl (q.1 refl (omega (arith, long, part_length, asked, room))))

@@ -8,7 +8,7 @@ ghost use Rattle.std.specs.Prelude.{◌+◌, ◌≤◌, ◌≡◌, length, take,
 ghost use Rattle.texts.specs.Texts.{Lays};
 ghost use Rattle.listing.specs.Program.{input_room, following, text_of, note_of, limit_note};
 ghost use Rattle.listing.specs.Promise.{Fronts};
-ghost use Rattle.list.specs.Promise.{means_read, means_input, means_next};
+ghost use Rattle.list.specs.Promise.{means_moved, means_input, means_next};
 
 use blocks::BLOCK_LIMIT;
 use listing::{TEXT_ROOM, lay_listing};
@@ -27,7 +27,7 @@ const NOTE_ROOM: usize = 128;
 // it, or all that was asked for. A read that moves no byte is the input's end.
 fn after_read(there: Count, read: io::Result<usize>) -> io::Result<ControlFlow<Count, Count>>
     requires { IfOk read (λ n. there.0 + n ≤ input_room) }
-    ensures { means_next result ≡ following there.0 (means_read read) }
+    ensures { means_next result ≡ following there.0 (means_moved read) }
 {
     let moved = read?;
     let now = there.0 + moved;

@@ -2,9 +2,10 @@
 // on a left-hand thread the two change places, and zero holds on both.
 #![tactic(auto)]
 
-ghost use Rattle.std.specs.Prelude.{◌≡◌};
-ghost use Rattle.turns.specs.Turns.{turn_of, swapped, Means};
+ghost use Rattle.std.specs.Prelude.{◌≡◌, Some};
+ghost use Rattle.turns.specs.Turns.{turn_of, swapped, name_of, Means};
 
+use std::fmt;
 use words::Refusal;
 
 // The thread codes that there are.
@@ -39,6 +40,19 @@ impl Turn {
             Turn::Tighten => Turn::Loosen,
             Turn::Loosen => Turn::Tighten,
             Turn::Hold => Turn::Hold,
+        }
+    }
+}
+
+// Its name.
+impl fmt::Display for Turn {
+    ghost output = { λ t. Some (name_of t) };
+
+    fn fmt<W: fmt::Write>(&self, f: &mut fmt::Formatter<W>) -> fmt::Result {
+        match self {
+            Turn::Tighten => write!(f, "tighten"),
+            Turn::Loosen => write!(f, "loosen"),
+            Turn::Hold => write!(f, "hold"),
         }
     }
 }
