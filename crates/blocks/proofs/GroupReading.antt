@@ -17,10 +17,10 @@ use lib.IntN.{ℤ, pos, negsuc}
 use lib.ListN.{length, get_or, take, drop, length-drop}
 use lib.Seq.{get_or-drop, drop-drop, drop-cons, length-take-le}
 use Rattle.std.specs.List.{take_while, slice_range}
-use Rattle.bits.specs.Macros.{is_high_8_bit_set_lem}
 use Rattle.words.specs.Answer.{Answer, gives, refused, Why, because_at, moved}
 use Rattle.words.specs.declared.Refusal.{Refusal}
 use Rattle.words.proofs.Cases.{by_order}
+use Rattle.bits.specs.Macros.{is_high_8_bit_set_lem}
 use Rattle.groups.specs.Group.{Bytes, run}
 use Rattle.groups.specs.Width.{Width, reading, read}
 use Rattle.groups.proofs.Run.{run_low, run_within, run_drop}

@@ -15,8 +15,8 @@ use lib.Seq.{take-length}
 use Rattle.std.specs.List.{prefix_len, take_while, slice_range}
 use Rattle.std.proofs.lemmas.List.Folds.{length-prefix_len}
 use Rattle.words.proofs.Cases.{by_order}
-use Rattle.groups.specs.Group.{run}
 use Rattle.bits.specs.Macros.{is_high_8_bit_set_lem}
+use Rattle.groups.specs.Group.{run}
 use Rattle.groups.proofs.Run.{run_low, run_high, run_within}
 use Rattle.blocks.specs.Block.{is_start_lem}
 

@@ -19,9 +19,11 @@ use mathlib.Core.Bool.{true, false}
 use native.Mathlib.Omega.{arith}
 use borrow.Author.Tests.{lt-ltb, le-ltb, le-leb, lt-leb, eq-eqb, ne_eqb}
 use lib.ListN.{length, take, drop, length-drop}
+use Rattle.std.specs.Prelude.{Result, Ok, Err}
 use Rattle.words.specs.Answer.{gives}
 use Rattle.words.specs.declared.Count.{Count}
 use Rattle.words.specs.declared.Refusal.TheVariants.{TooLong, Place, NotAStart, NoStart}
+use Rattle.words.specs.declared.Refusal.{Refusal}
 use Rattle.groups.specs.Group.{run}
 use Rattle.groups.proofs.Run.{run_within}
 use Rattle.blocks.specs.Block.{is_start_lem, finished, says_by, stepping, setting_down, block_limit}
@@ -31,8 +33,6 @@ use Rattle.blocks.specs.declared.Cursor.{Cursor}
 use Rattle.blocks.specs.declared.Rule.{Rule}
 use Rattle.blocks.specs.declared.Step.{Step}
 use Rattle.blocks.specs.declared.Step.TheVariants as S
-use Rattle.std.specs.Prelude.{Result, Ok, Err}
-use Rattle.words.specs.declared.Refusal.{Refusal}
 
 module _ (rule : Rule) (s : List ℕ) (p : ℕ) where
   pub step_too_long : block_limit < length s → Steps rule s p (Err TooLong)

@@ -9,9 +9,9 @@ use lib.Seq.{sets}
 use Rattle.texts.specs.Texts.{decimal, LaysText, Lays}
 use Rattle.texts.specs.declared.Text.{Text}
 use Rattle.texts.proofs.Decimals.{decimal_small, decimal_large}
+use Rattle.blocks.proofs.FromStart.{group_here}
 use Rattle.listing.specs.Listing.{text}
 use Rattle.listing.proofs.TextFits.{text_above, text_within, text_fits}
-use Rattle.blocks.proofs.FromStart.{group_here}
 use Rattle.listing.proofs.RowsLeft.{end_left, tail_left, group_left}
 use Rattle.claims.specs.OfListing.{OfListing}
 use Rattle.claims.proofs.Text.{front_enough, text_document}

@@ -5,13 +5,11 @@
 --   first_bytes               all that a reader had, or as many as are asked for, are the first of what it had
 --   part_length, whole        how long the part is; the same of what the read has added
 --   piece_more, piece_ended   what stands there where more is to be read, and where all is there
-use Rattle.std.proofs.Common.{◌≡◌, refl, ap, sym, ◌∙◌, ℕ, zero, suc, ◌+◌, ◌-◌, ◌≤◌, ◌<◌, arith, lt-ltb, le-ltb, ◌⊎◌, inl, inr}
-use Rattle.std.proofs.Common.{List, ◌++◌, length, take, drop, append_assoc, append-nil, length-append, length-drop, length-take-le, take_all}
-use Rattle.std.proofs.Common.{Option, Some, None, Result, Ok, Err, IfSome}
-use Rattle.std.proofs.lemmas.List.{take-append-le}
-use Rattle.std.proofs.Math.Seq.{take-append-add, take-append_seam}
 use Rattle.std.specs.Io.{ReadsAtMost}
 use Rattle.std.specs.Io.KnownBytes.{Consumes, IsAtEnd, ReadConsumes}
+use Rattle.std.proofs.Common.{◌≡◌, refl, ap, sym, ◌∙◌, ℕ, zero, suc, ◌+◌, ◌-◌, ◌≤◌, ◌<◌, arith, lt-ltb, le-ltb, ◌⊎◌, inl, inr, List, ◌++◌, length, take, drop, append_assoc, append-nil, length-append, length-drop, length-take-le, take_all, Option, Some, None, Result, Ok, Err, IfSome}
+use Rattle.std.proofs.lemmas.List.{take-append-le}
+use Rattle.std.proofs.Math.Seq.{take-append-add, take-append_seam}
 use Rattle.words.proofs.Cases.{by_order}
 use Rattle.listing.specs.Program.{bytes, more, ended, input_room, following}
 use Rattle.list.specs.Promise.{means_moved}

@@ -16,8 +16,8 @@ use lib.Seq.{take_all}
 use Rattle.texts.specs.Texts.{ascii, decimal, LaysText, Lays}
 use Rattle.texts.specs.declared.Text.{Text}
 use Rattle.texts.proofs.LaysText.{joined, joined_laid, front_laid, front_count}
-use Rattle.blocks.proofs.FromStart.{front_start}
 use Rattle.blocks.specs.Block.{block_limit}
+use Rattle.blocks.proofs.FromStart.{front_start}
 use Rattle.listing.specs.Listing.{row, text, text_room}
 use Rattle.listing.specs.Inner.{spaced}
 use Rattle.listing.specs.Promise.{Fronts, LaysListing}

@@ -20,10 +20,10 @@ use Rattle.groups.proofs.Stands.{reading_count, reading_alone}
 use Rattle.uleb128.specs.Unsigned.{u64}
 use Rattle.lists.specs.InnerLeft.{Left, done, one, lows}
 use Rattle.lists.specs.InnerSound.{Clean}
-use Rattle.lists.proofs.quick.CleanLeft.{clean_left}
-use Rattle.lists.proofs.quick.LowBytes.{number_closed, lows_whole}
 use Rattle.lists.specs.Strict.{joined, numbers}
 use Rattle.lists.specs.Inner.{many}
+use Rattle.lists.proofs.quick.CleanLeft.{clean_left}
+use Rattle.lists.proofs.quick.LowBytes.{number_closed, lows_whole}
 use Rattle.lists.proofs.NumbersInFront.{numbers_group, numbers_tail, numbers_none}
 
 -- a number and others, without a fault, taken apart

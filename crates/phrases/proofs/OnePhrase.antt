@@ -23,8 +23,6 @@ use Rattle.phrases.specs.Grammar.{Phrase, Good, sentences}
 use Rattle.phrases.specs.Promise.{PhraseRow, too_long, not_good, no_room, Phrased, row, fills, means_read_phrase, ReadsPhrase}
 use Rattle.phrases.proofs.OneReading.{one_item}
 use Rattle.phrases.proofs.Decided.{good_or_not}
-use Rattle.std.specs.Prelude.{Result, Ok, Err}
-use Rattle.lists.specs.declared.Numbers.{Numbers}
 
 module _ {s : List ℕ} {room : ℕ} where
   pub one_row : {a b : Refusal} → PhraseRow s room a → PhraseRow s room b → a ≡ b

@@ -5,10 +5,10 @@
 --                                                     where all do
 --   none_done, one_done                               at first none are done, and with each item one more
 --   all_done, no_item_left                            the answers of `items`
-use Rattle.std.proofs.Common.{◌≡◌, ℕ, suc, ◌+◌, ◌-◌, ◌/◌, ◌%◌, ◌<◌, ◌≤◌, ◌↔◌, List, ◌∷◌, Option, Some, None, length, get_or, drop, add-one, arith}
 use native.Mathlib.Nat.{sub-zero}
 use lib.ListN.{drop_of_length-le}
 use lib.Seq.{drop-cons}
+use Rattle.std.proofs.Common.{◌≡◌, ℕ, suc, ◌+◌, ◌-◌, ◌/◌, ◌%◌, ◌<◌, ◌≤◌, ◌↔◌, List, ◌∷◌, Option, Some, None, length, get_or, drop, add-one, arith}
 use Rattle.phrases.specs.Inner.{OneAhead, SomeAhead, Passes, found, missed}
 use Rattle.phrases.proofs.Ahead.{nothing_ahead, leaf_ahead, too_deep, branch_ahead, ahead_branch, none_ahead, more_ahead, ahead_more, no_first}
 

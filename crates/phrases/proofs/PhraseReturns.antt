@@ -4,12 +4,12 @@
 use Prim.Native.Nat.{ℕ, ◌≤◌, ◌<◌}
 use mathlib.Core.Path.{◌≡◌, refl, ap, sym, ◌∙◌}
 use mathlib.Core.List.{List, [], ◌++◌}
-use Rattle.std.proofs.Common.{Option, Some, None, Bool, true, false, not, eqb, Ok, Err}
-use Rattle.std.specs.Option.{option_eq}
-use Rattle.std.proofs.lemmas.Bool.{eqb-true, eq-eqb}
 use native.Mathlib.Omega.{arith}
-use Rattle.std.specs.List.{count_by}
 use lib.ListN.{length, drop, length-drop, drop_of_length-le}
+use Rattle.std.specs.Option.{option_eq}
+use Rattle.std.specs.List.{count_by}
+use Rattle.std.proofs.Common.{Option, Some, None, Bool, true, false, not, eqb, Ok, Err}
+use Rattle.std.proofs.lemmas.Bool.{eqb-true, eq-eqb}
 use Rattle.words.specs.declared.Refusal.TheVariants as Why
 use Rattle.lists.specs.Lists.{list_limit}
 use Rattle.phrases.specs.Grammar.{Phrase, nil, cons, none, more, nesting, Good}

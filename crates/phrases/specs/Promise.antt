@@ -11,7 +11,6 @@ use Rattle.words.specs.declared.Refusal.TheVariants.{TooLong, Tree, NoRoom}
 use Rattle.lists.specs.Lists.{list_limit}
 use Rattle.lists.specs.declared.Numbers.{Numbers}
 use Rattle.phrases.specs.Grammar.{Phrase, Good, sentences}
-use Rattle.lists.specs.declared.Numbers.{Numbers}
 
 pub data PhraseRow (s : List ℕ) (room : ℕ) : Refusal → Type 0 where
   too_long : list_limit < length s → PhraseRow s room TooLong

@@ -12,9 +12,9 @@ use mathlib.Core.Path.{◌≡◌, refl, sym}
 use lib.Ieee.{binary32, of_bits, lt, le}
 use Rattle.words.specs.Answer.{both}
 use Rattle.words.proofs.Cases.{both_false}
+use Rattle.slips.specs.Good.{Measure, torque, good_word, good_words, is_in_order, good}
 use Rattle.slips.proofs.Order.{numbers_order}
 use Rattle.slips.proofs.GoodBits.{good_number, good_float}
-use Rattle.slips.specs.Good.{Measure, torque, good_word, good_words, is_in_order, good}
 use Rattle.slips.proofs.GoodWords.{first_good, others_good}
 
 pub nothing_good : good [] [] ≡ true

@@ -20,9 +20,11 @@ use lib.Ieee.Bits.{of_bits-fits}
 use lib.Dec.{T}
 use lib.Seq.{take-length}
 use Rattle.std.specs.List.{slice_range}
+use Rattle.std.specs.Prelude.{Result, Ok, Err}
 use Rattle.words.specs.Answer.{refused, by}
 use Rattle.words.specs.declared.Count.{Count}
 use Rattle.words.specs.declared.Refusal.TheVariants as Why
+use Rattle.words.specs.declared.Refusal.{Refusal}
 use Rattle.slips.specs.Good.{Measure, torque, good_word, good}
 use Rattle.slips.specs.Slip.{measures, body_length, little, words, judged, bodied, slip, slip_at}
 use Rattle.slips.specs.Promise.{means_setting, F32, ReadsSetting}
@@ -31,8 +33,6 @@ use Rattle.slips.specs.declared.Setting.{Setting}
 use Rattle.slips.proofs.GoodBits.{good_back}
 use Rattle.slips.proofs.GoodRange.{alone}
 use Rattle.slips.proofs.ByTests.{start_asked, kind_asked}
-use Rattle.std.specs.Prelude.{Result, Ok, Err}
-use Rattle.words.specs.declared.Refusal.{Refusal}
 
 module _ {k : ℕ} (l : List ℕ) where
   pub slip_unknown : 3 < k → AnswersSlip (k ∷ l) (Err Why.Slip)

@@ -16,9 +16,11 @@ use lib.Dec.{ltb}
 use lib.Ieee.{binary32, of_bits}
 use lib.Ieee.Bits.{of_bits-to_bits, of_bits-fits}
 use lib.ListN.{get_or}
+use Rattle.std.specs.Prelude.{Result, Ok, Err}
 use Rattle.words.specs.Answer.{Answer, gives, refused, because, Written}
 use Rattle.words.specs.declared.Refusal.{Refusal}
 use Rattle.words.specs.declared.Refusal.TheVariants.{End, Place, Slip}
+use Rattle.words.specs.declared.Count.{Count}
 use Rattle.words.proofs.Cases.{by_test, both_true}
 use Rattle.words.proofs.Lays.{some_lays}
 use Rattle.words.proofs.OneMeaning.{back}
@@ -31,8 +33,6 @@ use Rattle.slips.specs.declared.Setting.TheVariants as S
 use Rattle.slips.proofs.ByTests.{by_tests}
 use Rattle.slips.proofs.GoodBits.{good_back}
 use Rattle.slips.proofs.GoodWords.{EachGood, none, more, each_good}
-use Rattle.std.specs.Prelude.{Result, Ok, Err}
-use Rattle.words.specs.declared.Count.{Count}
 
 abbrev pub setting_of : ℕ × List ℕ → Setting
 setting_of (zero, ws) = S.Nothing

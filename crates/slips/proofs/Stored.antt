@@ -17,6 +17,7 @@ use lib.ListN.{length, get_or, take, drop, length-drop, drop_of_length-le}
 use lib.Seq.{sets, sets-eq, drop-cons, drop-drop}
 use Rattle.std.proofs.Common.{append_assoc, Ok}
 use Rattle.words.specs.Lays.{Lays}
+use Rattle.words.specs.Answer.{Written}
 use Rattle.words.proofs.LaysInParts.{Laying, part_laid, all_laid, puts_lays}
 use Rattle.words.proofs.Lays.{room_there}
 use Rattle.slips.specs.Good.{good}
@@ -26,7 +27,6 @@ use Rattle.slips.specs.Inner.{WritesWords}
 use Rattle.slips.specs.declared.Setting.{Setting}
 use Rattle.slips.proofs.GoodRange.{alone, nothing_good}
 use Rattle.slips.proofs.Spelled.{length_body}
-use Rattle.words.specs.Answer.{Written}
 
 part_there : (bytes s : List ℕ) (at : ℕ) {k : ℕ} → k ≡ length bytes → at + length bytes ≤ length s → put_mid at k s bytes ≡ sets s at bytes
 part_there bytes s at c h =

@@ -12,12 +12,12 @@ use Rattle.std.specs.Float.{nan, binary32}
 use Rattle.std.specs.Float.Ieee.{to_bits, lt, fits}
 use Rattle.words.specs.Answer.{pick, Answer, gives, refused, by, because, means_written, Written}
 use Rattle.words.specs.Lays.{writing, laid}
+use Rattle.words.specs.declared.Count.{Count}
+use Rattle.words.specs.declared.Refusal.{Refusal}
 use Rattle.slips.specs.Slip.{form, good_setting, slip_at}
 use Rattle.slips.specs.declared.Range.{Range}
 use Rattle.slips.specs.declared.Setting.{Setting}
 use Rattle.slips.specs.declared.Setting.TheVariants as S
-use Rattle.words.specs.declared.Count.{Count}
-use Rattle.words.specs.declared.Refusal.{Refusal}
 
 abbrev pub means_setting : Setting → ℕ × List ℕ
 means_setting S.Nothing = (0, [])

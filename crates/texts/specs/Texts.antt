@@ -8,9 +8,9 @@
 --   LaysDecimal v s n r s'   so stands the number v in decimal
 --   Lays t x y               so stands the text t in y, where x was: behind what x has filled, in the same buffer
 --   LaysNumber v x y         so stands the number v in decimal
-use Rattle.std.specs.Prelude.{ℕ, zero, suc, ◌+◌, ◌-◌, ◌/◌, ◌%◌, true, false, List, [], ◌∷◌, ◌++◌, ◌≡◌, ltb, length, take}
 use Prim.Native.Char.{code}
 use Prim.Native.String.{String, len, char_at}
+use Rattle.std.specs.Prelude.{ℕ, zero, suc, ◌+◌, ◌-◌, ◌/◌, ◌%◌, true, false, List, [], ◌∷◌, ◌++◌, ◌≡◌, ltb, length, take}
 use Rattle.std.proofs.lemmas.List.Edits.{sets}
 use Rattle.texts.specs.declared.Text.{Text}
 

@@ -7,8 +7,6 @@ use Rattle.words.specs.declared.Refusal.{Refusal}
 use Rattle.words.proofs.OneNumber.{refusal_back}
 use Rattle.words.proofs.OneMeaning.{same_by, back}
 use Rattle.turns.specs.Turns.{means_meaning}
-use Rattle.std.specs.Prelude.{Result, Ok, Err}
-use Rattle.words.specs.declared.Refusal.{Refusal}
 use Rattle.turns.specs.declared.Turn.{Turn}
 
 pub same_meaning : (r r' : Result Turn Refusal) → means_meaning r ≡ means_meaning r' → r ≡ r'

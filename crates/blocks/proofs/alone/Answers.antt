@@ -1,6 +1,6 @@
 -- `blocks::alone` keeps what it promises inside the crate.
-use Rattle.std.proofs.Common.{◌≡◌, ◌-◌, arith}
 use Rattle.std.specs.Prelude.{pos, negsuc, ◌-ℤ◌}
+use Rattle.std.proofs.Common.{◌≡◌, ◌-◌, arith}
 use Rattle.std.proofs.lemmas.Int.{ints}
 use Rattle.groups.proofs.SignedWords.{above, word_back}
 use Rattle.blocks.proofs.GroupReading.{one_unsigned, one_above, one_below}

@@ -1,5 +1,8 @@
 -- `blocks::long` keeps what it promises inside the crate: by each rule a law of `GroupReading` for a number, and one for a refusal.
+use Rattle.std.specs.Prelude.{ℤ}
 use Rattle.std.proofs.Common.{ℕ, ◌+◌, ◌≤◌, ◌≡◌, List, length, ap, sym, ◌∙◌, arith, rules, Ok}
+use Rattle.words.specs.declared.Count.{Count}
+use Rattle.words.specs.Answer.{Reading, means_read}
 use Rattle.groups.specs.Group.{Bytes}
 use Rattle.groups.proofs.SignedWords.{word_back}
 use Rattle.uleb128.specs.Unsigned.{u64}
@@ -8,16 +11,12 @@ use Rattle.uleb128.proofs.Widths as U
 use Rattle.sleb128.specs.Signed.{i64}
 use Rattle.sleb128.specs.Promise.{ReadsI64}
 use Rattle.sleb128.proofs.Widths as S
-use Rattle.std.specs.Prelude.{ℤ}
-use Rattle.words.specs.declared.Count.{Count}
 use Rattle.blocks.specs.Block.{unsigned, signed, read_by, number}
 use Rattle.blocks.specs.Inner.{standing}
 use Rattle.blocks.specs.declared.Rule.{Rule}
 use Rattle.blocks.specs.declared.Rule.TheVariants.{Unsigned, Signed}
 use Rattle.blocks.proofs.GroupReading.{reads_number, reads_none, decided_high}
 use Rattle.blocks.proofs.long.Goals as goal
-use Rattle.words.specs.Answer.{Reading}
-use Rattle.words.specs.Answer.{means_read}
 
 -- by the unsigned rule
 says_u : (s : List ℕ) (at : ℕ) {rule : Rule} {r : Reading ℕ} (v : ℕ) (n : Count) → Bytes s → rule ≡ Unsigned → ReadsU64 s at r → r ≡ Ok (v, n)

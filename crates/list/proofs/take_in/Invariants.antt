@@ -1,6 +1,6 @@
 -- The loop of `list::take_in` holds that there is room for more, that the bytes at the front are those that the reader has lost, and that room falls.
-use Rattle.std.proofs.Common.{◌-◌, ◌<◌, take}
 use Rattle.std.specs.Io.KnownBytes.{Consumes}
+use Rattle.std.proofs.Common.{◌-◌, ◌<◌, take}
 use Rattle.listing.specs.Program.{input_room}
 use Rattle.list.proofs.take_in.Given as goal
 

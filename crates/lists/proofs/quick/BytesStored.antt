@@ -6,12 +6,12 @@
 --   few_of_eight    at most eight of eight bytes are below 128
 --   some_of_eight   where not all of the first eight are below 128, they tell how many of the sixteen are,
 --   all_of_eight    and where they are, the second eight tell it
-use Rattle.std.proofs.Common.{◌≡◌, ℕ, zero, suc, ◌+◌, ◌*◌, ◌≤◌, ◌<◌, List, [], ◌∷◌, ◌++◌, length, get_or, take, drop, set, refl, sym, ◌∙◌, w64, zero-add, arith}
-use Rattle.std.specs.Int.{from_le_bytes}
-use Rattle.std.proofs.lemmas.List.{take_more, take_all}
-use Rattle.std.proofs.lemmas.List.Edits.{sets, sets-eq}
 use lib.ListN.{drop_of_length-le}
 use lib.Seq.{take-add, length-take-le}
+use Rattle.std.specs.Int.{from_le_bytes}
+use Rattle.std.proofs.Common.{◌≡◌, ℕ, zero, suc, ◌+◌, ◌*◌, ◌≤◌, ◌<◌, List, [], ◌∷◌, ◌++◌, length, get_or, take, drop, set, refl, sym, ◌∙◌, w64, zero-add, arith}
+use Rattle.std.proofs.lemmas.List.{take_more, take_all}
+use Rattle.std.proofs.lemmas.List.Edits.{sets, sets-eq}
 use Rattle.words.proofs.Lays.{sets_append}
 use Rattle.lists.specs.InnerWord.{based, little, smalls}
 use Rattle.lists.specs.InnerWide.{Stores}

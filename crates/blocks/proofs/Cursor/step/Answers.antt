@@ -1,6 +1,6 @@
 -- `blocks::Cursor::step` meets its promise: a law of `Rows` for each answer before a start, and from there what `long` or one byte says.
-use Rattle.std.proofs.Common.{refl, sym, ◌∙◌, rules}
 use borrow.Author.Tests.{leb-false}
+use Rattle.std.proofs.Common.{refl, sym, ◌∙◌, rules}
 use Rattle.blocks.proofs.GroupReading.{reads_one}
 use Rattle.blocks.proofs.Rows.{step_too_long, step_past, step_finished, step_not_a_start, step_standing}
 use Rattle.blocks.proofs.Cursor.step.Goals as goal

@@ -2,8 +2,8 @@
 use borrow.Author.Tests.{leb-true, leb-false}
 use Rattle.std.proofs.Common.{◌≡◌, ◌∙◌, ℕ, ap, sym, arith}
 use Rattle.std.proofs.lemmas.List.{length-take}
-use Rattle.groups.proofs.WalkLoop.{walk_past, none_walked, byte_taken, walk_closes, walk_overruns, one_walked, walk_runs_dry, part_fits, weight_fits, walks_from}
 use Rattle.groups.specs.declared.Walked.TheVariants.{Open}
+use Rattle.groups.proofs.WalkLoop.{walk_past, none_walked, byte_taken, walk_closes, walk_overruns, one_walked, walk_runs_dry, part_fits, weight_fits, walks_from}
 use Rattle.groups.proofs.reading.walk.Goals as goal
 
 pub returns-then-bytes-start : goal.returns-then-bytes-start

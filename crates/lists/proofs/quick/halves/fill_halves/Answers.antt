@@ -1,6 +1,6 @@
 -- `lists::fill_halves` keeps what it promises inside the crate: the loop holds `Filling`, and each part of a turn is a law of `HalvesLoop`.
-use Rattle.std.proofs.Common.{arith, rules, ◌-◌, ◌∙◌}
 use borrow.Rule.Slice.PartMut.{mid_len, same_len_mid}
+use Rattle.std.proofs.Common.{arith, rules, ◌-◌, ◌∙◌}
 use Rattle.lists.proofs.quick.Stream.{stream_rest}
 use Rattle.lists.proofs.quick.Steps.{rest_long, step_small}
 use Rattle.lists.proofs.quick.HalvesLoop.{filling_begins, first_end, second_end, filling_ends, accepts_first, accepts_second, first_inside, second_inside, turn_stored, ready_first, ready_second, turn_ends}

@@ -1,6 +1,6 @@
 -- What the loop of `low_bytes` holds: what is counted and what is left are all.
-use Rattle.std.proofs.Common.{◌≡◌, ◌+◌}
 use Rattle.std.specs.Slice.Iter.{chunks_rest, chunks_size}
+use Rattle.std.proofs.Common.{◌≡◌, ◌+◌}
 use Rattle.lists.specs.InnerLeft.{lows}
 use Rattle.lists.proofs.quick.lows.low_bytes.Given as goal
 
