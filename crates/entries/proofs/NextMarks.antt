@@ -10,10 +10,11 @@
 --   next_here                                      a mark at the place itself is the next one
 --   next_is, next_none                             the next one is a mark where it stands before the end, and where it doesn't, there is none
 --   Seeking s p at                                 from p up to at, no mark was found
---   seek_start, seek_on, seek_found, seek_end      the loop's turns
+--   seek_start, seek_on, seek_found, seek_end      the search's turns
 --   some_next                                      there is a next mark, or the end
+--   first_next, first_none, first_or_end           what `next_mark` answers: the next mark; that there is none; the next mark, or the end
 use Prim.Native.Nat.{ℕ, zero, suc, ◌+◌, ◌-◌, ◌≤◌, ◌<◌}
-use mathlib.Core.Path.{◌≡◌, ap, sym, ◌∙◌}
+use mathlib.Core.Path.{◌≡◌, refl, ap, sym, ◌∙◌}
 use mathlib.Core.List.{List, [], ◌∷◌}
 use mathlib.Core.Bool.{Bool, true, false, not}
 use mathlib.Core.Logic.{◌⊎◌, inl, inr, ⊎_elim}
@@ -22,14 +23,16 @@ use borrow.Author.Tests.{lt-ltb}
 use lib.Dec.{ltb}
 use lib.ListN.{length, get_or, take, drop, length-drop}
 use lib.Seq.{get_or-drop, take-length}
+use Rattle.std.specs.Prelude.{Option, Some, None}
 use Rattle.std.specs.List.{slice_range}
+use Rattle.std.specs.Option.{unwrap_or}
 use Rattle.words.proofs.Cases.{by_order, by_test}
 use Rattle.bits.specs.Macros.{is_high_8_bit_set_lem}
 use Rattle.bits.proofs.HighBit.{bit_clear, bit_set}
 use Rattle.groups.specs.Group.{Group, one, more}
 use Rattle.blocks.specs.GroupsAndTail.{GroupAt}
 use Rattle.entries.specs.Standing.{mark, NextMark}
-use Rattle.entries.specs.Inner.{Tells}
+use Rattle.entries.specs.Inner.{Tells, FirstMark}
 
 pub mark_group : Group mark
 mark_group = more {b = 128} {g = 0 ∷ []} (omega arith) (omega arith) (one {b = 0} (omega arith))
@@ -85,26 +88,26 @@ module _ {s : List ℕ} {p m : ℕ} (a : NextMark s p m) where
   pub next_none : length s ≤ m → (q : ℕ) → p ≤ q → GroupAt s q mark → ⊥
   next_none h q l k = a.none_before q l (omega (arith, mark_inside k)) k
 
-pub record Seeking (s : List ℕ) (p at : ℕ) : Type 0 where
+record Seeking (s : List ℕ) (p at : ℕ) : Type 0 where
   pub behind : p ≤ at
   pub within : at ≤ length s
   pub none_passed : (q : ℕ) → p ≤ q → q < at → GroupAt s q mark → ⊥
 
-pub seek_start : (s : List ℕ) (p : ℕ) → p ≤ length s → Seeking s p p
+seek_start : (s : List ℕ) (p : ℕ) → p ≤ length s → Seeking s p p
 seek_start s p h = record { behind = omega arith; within = h; none_passed = λ q a b k. omega arith }
 
 module _ {s : List ℕ} {p at : ℕ} (g : Seeking s p at) where
-  pub seek_on : at < length s → (GroupAt s at mark → ⊥) → Seeking s p (at + 1)
+  seek_on : at < length s → (GroupAt s at mark → ⊥) → Seeking s p (at + 1)
   seek_on h none = record {
     behind = omega (arith, g.behind);
     within = omega arith;
     none_passed = λ q a b k. by_order q at (λ l. g.none_passed q a l k) (λ l. let i : q ≡ at = omega arith in none (rw i at k));
   }
 
-  pub seek_found : GroupAt s at mark → NextMark s p at
+  seek_found : GroupAt s at mark → NextMark s p at
   seek_found k = record { from = g.behind; none_before = g.none_passed; there = inl k }
 
-  pub seek_end : length s ≤ at → NextMark s p at
+  seek_end : length s ≤ at → NextMark s p at
   seek_end h = record { from = g.behind; none_before = g.none_passed; there = inr (omega (arith, g.within)) }
 
 pub told_yes : {P : Type 0} {t : Bool} → Tells P t → t ≡ true → P
@@ -152,3 +155,15 @@ seek {s} {p} (suc n) at h g =
 
 pub some_next : (s : List ℕ) (p : ℕ) → p ≤ length s → (m : ℕ) × NextMark s p m
 some_next s p h = seek (suc (length s - p)) p (omega arith) (seek_start s p h)
+
+-- what the search answers
+module _ {s : List ℕ} {p : ℕ} where
+  pub first_next : {m : ℕ} → FirstMark s p (Some m) → NextMark s p m
+  first_next f = record { from = f.is.0; none_before = f.is.3; there = inl f.is.2 }
+
+  pub first_none : FirstMark s p None → (q : ℕ) → p ≤ q → GroupAt s q mark → ⊥
+  first_none f q h k = f.is q h (omega (arith, mark_inside k)) k
+
+  pub first_or_end : p ≤ length s → {r : Option ℕ} {n : ℕ} → FirstMark s p r → n ≡ unwrap_or r (length s) → NextMark s p n
+  first_or_end h {r = Some m} f e = rw e (first_next f)
+  first_or_end h {r = None} f e = rw e (record { from = h; none_before = f.is; there = inr refl })
