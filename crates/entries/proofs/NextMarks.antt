@@ -9,8 +9,6 @@
 --   one_next                                       there is one next mark
 --   next_here                                      a mark at the place itself is the next one
 --   next_is, next_none                             the next one is a mark where it stands before the end, and where it doesn't, there is none
---   Seeking s p at                                 from p up to at, no mark was found
---   seek_start, seek_on, seek_found, seek_end      the search's turns
 --   some_next                                      there is a next mark, or the end
 --   first_next, first_none, first_or_end           what `next_mark` answers: the next mark; that there is none; the next mark, or the end
 use Prim.Native.Nat.{ℕ, zero, suc, ◌+◌, ◌-◌, ◌≤◌, ◌<◌}
@@ -88,28 +86,6 @@ module _ {s : List ℕ} {p m : ℕ} (a : NextMark s p m) where
   pub next_none : length s ≤ m → (q : ℕ) → p ≤ q → GroupAt s q mark → ⊥
   next_none h q l k = a.none_before q l (omega (arith, mark_inside k)) k
 
-record Seeking (s : List ℕ) (p at : ℕ) : Type 0 where
-  pub behind : p ≤ at
-  pub within : at ≤ length s
-  pub none_passed : (q : ℕ) → p ≤ q → q < at → GroupAt s q mark → ⊥
-
-seek_start : (s : List ℕ) (p : ℕ) → p ≤ length s → Seeking s p p
-seek_start s p h = record { behind = omega arith; within = h; none_passed = λ q a b k. omega arith }
-
-module _ {s : List ℕ} {p at : ℕ} (g : Seeking s p at) where
-  seek_on : at < length s → (GroupAt s at mark → ⊥) → Seeking s p (at + 1)
-  seek_on h none = record {
-    behind = omega (arith, g.behind);
-    within = omega arith;
-    none_passed = λ q a b k. by_order q at (λ l. g.none_passed q a l k) (λ l. let i : q ≡ at = omega arith in none (rw i at k));
-  }
-
-  seek_found : GroupAt s at mark → NextMark s p at
-  seek_found k = record { from = g.behind; none_before = g.none_passed; there = inl k }
-
-  seek_end : length s ≤ at → NextMark s p at
-  seek_end h = record { from = g.behind; none_before = g.none_passed; there = inr (omega (arith, g.within)) }
-
 pub told_yes : {P : Type 0} {t : Bool} → Tells P t → t ≡ true → P
 told_yes f e = rw e at f
 
@@ -146,15 +122,21 @@ mark_or_not s p =
     (λ z. by_order (get_or s (p - 1) 0) 128 (λ o. inl (mark_there s p h (omega arith) n (λ some. o))) (λ o. inr (λ k. omega (arith, mark_start k z))))))))
     (λ h. inr (λ k. omega (arith, mark_inside k)))
 
-seek : {s : List ℕ} {p : ℕ} (n at : ℕ) → length s - at < n → Seeking s p at → (m : ℕ) × NextMark s p m
-seek zero at h g = absurd (omega arith)
-seek {s} {p} (suc n) at h g =
-    by_order at (length s)
-    (λ i. ⊎_elim (λ k. (at, seek_found g k)) (λ (none : GroupAt s at mark → ⊥). seek n (at + 1) (omega arith) (seek_on g i none)) (mark_or_not s at))
-    (λ i. (at, seek_end g i))
+next_later : {s : List ℕ} {p m : ℕ} → (GroupAt s p mark → ⊥) → NextMark s (p + 1) m → NextMark s p m
+next_later {p = p} none a = record {
+  from = omega (arith, a.from);
+  none_before = λ q h l k. by_order p q (λ i. a.none_before q (omega arith) l k) (λ i. let e : q ≡ p = omega arith in none (rw e at k));
+  there = a.there;
+}
+
+-- there is one, or the end, n places ahead
+some_ahead : (n : ℕ) (s : List ℕ) (p : ℕ) → p + n ≡ length s → (m : ℕ) × NextMark s p m
+some_ahead zero s p e = (p, record { from = omega arith; none_before = λ q h l k. omega arith; there = inr (omega arith) })
+some_ahead (suc n) s p e =
+    ⊎_elim (λ k. (p, next_here k)) (λ (none : GroupAt s p mark → ⊥). let w = some_ahead n s (p + 1) (omega arith) in (w.0, next_later none w.1)) (mark_or_not s p)
 
 pub some_next : (s : List ℕ) (p : ℕ) → p ≤ length s → (m : ℕ) × NextMark s p m
-some_next s p h = seek (suc (length s - p)) p (omega arith) (seek_start s p h)
+some_next s p h = some_ahead (length s - p) s p (omega arith)
 
 -- what the search answers
 module _ {s : List ℕ} {p : ℕ} where
