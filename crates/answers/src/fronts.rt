@@ -2,7 +2,6 @@
 use crate::floats::float_of;
 use entries::Entry;
 use slips::{Range, Setting};
-use std::alloc::{AllocError, Global};
 
 fn take_u64(bytes: &mut [u8]) -> Option<(u64, &mut [u8])> {
     let (front, behind) = bytes.split_first_chunk_mut()?;
@@ -58,11 +57,12 @@ pub(crate) fn take_listed(count: u64, bytes: &mut [u8]) -> Option<(&mut [u8], &m
     bytes.split_at_mut_checked((count as usize).checked_mul(8)?)
 }
 
-// The numbers that have these bytes.
-pub(crate) fn numbers_of(alloc: Global, listed: &[u8]) -> Result<Vec<u64>, AllocError> {
+// The numbers that have these bytes, put to the front of a slice that holds so many.
+pub(crate) fn numbers_of<'a>(listed: &[u8], room: &'a mut [u64]) -> Option<&'a [u64]> {
     let (chunks, _) = listed.as_chunks();
-    chunks
-        .iter()
-        .map(|chunk| u64::from_le_bytes(*chunk))
-        .collect(alloc)
+    let numbers = room.get_mut(..chunks.len())?;
+    for (number, chunk) in numbers.iter_mut().zip(chunks) {
+        *number = u64::from_le_bytes(*chunk);
+    }
+    Some(numbers)
 }

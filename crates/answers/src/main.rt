@@ -8,37 +8,39 @@ mod ops;
 mod said;
 
 use frames::MOST_BYTES;
-use listing::TEXT_ROOM;
+use ops::Slices;
 use std::io;
-use std::io::{BufReader, BufWriter, ErrorKind, Write};
+use std::io::{Print, Write};
 
 // A proved loop has to end, and nothing says that the input does. So 2^64 - 1 frames are answered at most: no input has so many.
-// Each line is written out before the next frame is read.
-fn answer_all(rt: HostRuntime) -> io::Result<()> {
-    let alloc = rt.alloc();
-    let mut input = BufReader::new(alloc, rt.stdin())?;
-    let mut out = BufWriter::new(alloc, io::writer(&rt))?;
-    let mut buffer = vec![in alloc; 0; MOST_BYTES]?;
-    let mut text = [0; TEXT_ROOM];
+// A line is put together in a buffer, and is out before the next frame is read.
+fn answer_all(
+    rt: HostRuntime,
+    input: &mut [u8; MOST_BYTES],
+    slices: &mut Slices,
+    line: &mut [u8; ops::LINE],
+) -> io::Result<()> {
     for _ in 0..u64::MAX {
-        match frames::next_frame(&mut input, &mut buffer) {
-            Ok(Some(frame)) => ops::answer(alloc, frame, &mut text, &mut out)?,
-            Ok(None) => break,
-            Err(_) => {
-                writeln!(out, "cut")?;
-                break;
-            }
-        }
-        writeln!(out)?;
-        out.flush()?;
+        let Ok(coming) = frames::next_frame(&mut rt.stdin(), input) else {
+            return rt.stdout().write_all(b"cut\n");
+        };
+        let Some(frame) = coming else {
+            return Ok(());
+        };
+        let mut rest = &mut line[..];
+        ops::answer(frame, slices, &mut rest)?;
+        writeln!(rest)?;
+        let n = ops::LINE.saturating_sub(rest.len());
+        rt.stdout().write_all(&line[..n])?;
     }
-    out.flush()
+    Ok(())
 }
 
-// Output that fails ends the run without a word; too little memory is an error.
-fn main(rt: HostRuntime) -> io::Result<()> {
-    match answer_all(rt) {
-        Err(e) if e.kind() != ErrorKind::OutOfMemory => Ok(()),
-        done => done,
-    }
+// The arrays are made once, and not for each frame that needs one: to fill it takes longer than most ops do. Output that fails ends the run
+// without a word.
+fn main(rt: HostRuntime) {
+    let mut input = [0u8; MOST_BYTES];
+    let mut slices = Slices::new();
+    let mut line = [0u8; ops::LINE];
+    let _ = answer_all(rt, &mut input, &mut slices, &mut line);
 }

@@ -1,29 +1,44 @@
 // The ops: what each asks of the desk, and what the desk answered. Any other op is unknown, and so is one that does not take the
 // numbers of its frame.
-use crate::frames::Frame;
+use crate::frames::{Frame, MOST_BYTES};
 use crate::fronts::{numbers_of, take_entry, take_listed, take_setting, torque_and_range};
 use crate::said::{Filled, Hex, Say, Slip, Wrote};
 use blocks::{Cursor, Rule};
 use listing::TEXT_ROOM;
 use lists::NotRead;
-use std::alloc::{AllocError, Global};
 use std::io;
 use std::io::Write;
 use turns::Turn;
 use words::{Count, Place, Refusal};
 
+// The longest line is `text `, two digits for each byte of a listing, and its end.
+pub(crate) const LINE: usize = 6 + 2 * TEXT_ROOM;
+
+// The most numbers that the bytes of a frame hold.
+const MOST_LISTED: usize = MOST_BYTES / 8;
+
 // The most numbers of an answer slice. It is more than the bytes of a frame hold.
-const MOST_NUMBERS: u64 = 65536;
+const MOST_NUMBERS: usize = 65536;
 
 // What each number of an answer slice is before it is filled.
 const UNFILLED: u64 = 7777777777777777777;
 
-// An answer slice of so many numbers, if it may have so many.
-fn answer_slice(alloc: Global, room: u64) -> Result<Option<Vec<u64>>, AllocError> {
-    if MOST_NUMBERS < room {
-        return Ok(None);
+// What ops need beside a frame: room for a list, for an answer slice, and for a listing's text.
+#[derive(Drop)]
+pub(crate) struct Slices {
+    list: [u64; MOST_LISTED],
+    answer: [u64; MOST_NUMBERS],
+    text: [u8; TEXT_ROOM],
+}
+
+impl Slices {
+    pub(crate) fn new() -> Slices {
+        Slices {
+            list: [0; MOST_LISTED],
+            answer: [0; MOST_NUMBERS],
+            text: [0; TEXT_ROOM],
+        }
     }
-    Ok(Some(vec![in alloc; UNFILLED; room as usize]?))
 }
 
 fn length_u32(v: u64) -> Option<Count> {
@@ -57,59 +72,52 @@ fn write_entry(bytes: &mut [u8], place: Place) -> Option<Wrote<'_>> {
 }
 
 // Writes a list of so many numbers, which stand in front of the bytes that are lent.
-fn write_list(
-    alloc: Global,
+fn write_list<'a>(
     count: u64,
-    bytes: &mut [u8],
+    bytes: &'a mut [u8],
     place: Place,
-) -> Result<Option<Wrote<'_>>, AllocError> {
-    let Some((listed, lent)) = take_listed(count, bytes) else {
-        return Ok(None);
-    };
-    let numbers = numbers_of(alloc, listed)?;
-    let answer = lists::write_list(&numbers, lent, place);
-    Ok(Some(Wrote(answer, lent)))
+    list: &mut [u64],
+) -> Option<Wrote<'a>> {
+    let (listed, lent) = take_listed(count, bytes)?;
+    let numbers = numbers_of(listed, list)?;
+    Some(Wrote(lists::write_list(numbers, lent, place), lent))
+}
+
+// The answer slice of so many numbers, unfilled.
+fn unfilled(room: u64, answer: &mut [u64]) -> Option<&mut [u64]> {
+    let slice = answer.get_mut(..room as usize)?;
+    slice.fill(UNFILLED);
+    Some(slice)
 }
 
 // Reads a block into an answer slice of so many numbers.
-fn read_strict(
-    alloc: Global,
-    room: u64,
-    block: &[u8],
-) -> Result<Option<Filled<NotRead>>, AllocError> {
-    let Some(mut slice) = answer_slice(alloc, room)? else {
-        return Ok(None);
-    };
-    let answer = lists::read_strict(block, &mut slice);
-    Ok(Some(Filled(answer, slice)))
+fn read_strict<'a>(room: u64, block: &[u8], answer: &'a mut [u64]) -> Option<Filled<'a, NotRead>> {
+    let slice = unfilled(room, answer)?;
+    Some(Filled(lists::read_strict(block, slice), slice))
 }
 
 // Reads a phrase of so many numbers, which stand in front of the bytes, into an answer slice.
-fn read_phrase(
-    alloc: Global,
+fn read_phrase<'a>(
     room: u64,
     count: u64,
     bytes: &mut [u8],
-) -> Result<Option<Filled<Refusal>>, AllocError> {
-    let Some((listed, _)) = take_listed(count, bytes) else {
-        return Ok(None);
-    };
-    let Some(mut slice) = answer_slice(alloc, room)? else {
-        return Ok(None);
-    };
-    let numbers = numbers_of(alloc, listed)?;
-    let answer = phrases::read_phrase(&numbers, &mut slice);
-    Ok(Some(Filled(answer, slice)))
+    list: &mut [u64],
+    answer: &'a mut [u64],
+) -> Option<Filled<'a, Refusal>> {
+    let slice = unfilled(room, answer)?;
+    let (listed, _) = take_listed(count, bytes)?;
+    let numbers = numbers_of(listed, list)?;
+    Some(Filled(phrases::read_phrase(numbers, slice), slice))
 }
 
 // Writes the line for a frame, without its end. The text of a listing goes by way of a buffer.
 pub(crate) fn answer(
-    alloc: Global,
     frame: Frame<'_>,
-    text: &mut [u8; TEXT_ROOM],
+    slices: &mut Slices,
     out: &mut impl Write,
 ) -> io::Result<()> {
     let Frame { op, a, b, bytes } = frame;
+    let Slices { list, answer, text } = slices;
     let at_a = Place(a as usize);
     let at_b = Place(b as usize);
     let cursor = Cursor { place: at_a };
@@ -128,8 +136,8 @@ pub(crate) fn answer(
         12 => cursor.step(bytes, Rule::Unsigned).say(out),
         13 => cursor.step(bytes, Rule::Signed).say(out),
         14 => blocks::set_down(bytes, at_a).say(out),
-        15 => read_strict(alloc, a, bytes)?.say(out),
-        16 => write_list(alloc, b, bytes, at_a)?.say(out),
+        15 => read_strict(a, bytes, answer).say(out),
+        16 => write_list(b, bytes, at_a, list).say(out),
         17 => turn(a, b).say(out),
         18 => {
             let Count(n) = listing::lay_listing(bytes, text);
@@ -140,7 +148,7 @@ pub(crate) fn answer(
             .say(out),
         20 => write_setting(a, bytes, at_b).say(out),
         21 => lies_in_range(bytes).say(out),
-        22 => read_phrase(alloc, a, b, bytes)?.say(out),
+        22 => read_phrase(a, b, bytes, list, answer).say(out),
         23 => entries::read_entry(bytes, at_a).say(out),
         24 => write_entry(bytes, at_a).say(out),
         _ => write!(out, "unknown"),

@@ -164,13 +164,13 @@ impl Say for Wrote<'_> {
 }
 
 // What was answered, and the whole answer slice.
-pub(crate) struct Filled<E>(pub(crate) Result<Numbers, E>, pub(crate) Vec<u64>);
+pub(crate) struct Filled<'a, E>(pub(crate) Result<Numbers, E>, pub(crate) &'a [u64]);
 
-impl<E: Say> Say for Filled<E> {
+impl<E: Say> Say for Filled<'_, E> {
     fn say(self, out: &mut impl Write) -> io::Result<()> {
         let Filled(answer, slice) = self;
         answer.say(out)?;
-        for v in slice.iter() {
+        for v in slice {
             write!(out, " {v}")?;
         }
         Ok(())

@@ -1,7 +1,7 @@
 // Blocks: a run of groups and a tail. A cursor steps through it, a group at a time; set-down finds where to begin.
 #![tactic(auto)]
 
-ghost use Rattle.std.specs.Prelude.{◌≡◌, ◌+◌, ◌-◌, ◌^◌, ◌<◌, ◌≤◌, [], ◌∷◌, length, drop};
+ghost use Rattle.std.specs.Prelude.{◌≡◌, ◌-◌, ◌<◌, ◌≤◌, [], ◌∷◌, length, Ok};
 ghost use Rattle.std.specs.List.{take_while};
 ghost use Rattle.words.specs.Answer.{gives, because_of};
 ghost use Rattle.bits.specs.Macros.{is_high_8_bit_set_lem};
@@ -83,38 +83,34 @@ fn between(from: usize, to: usize) -> usize
 
 // What a step says where the reading is refused: a gap over the whole group, or a tail. All bytes before the one that decided it are
 // 128 or more, so the search for the group's end goes on from there.
-fn unread(block: &[u8], at: usize, fault: Fault) -> Result<Step, Refusal>
+fn unread(block: &[u8], at: usize, fault: Fault) -> Step
     requires { InRun block.now at fault.1.0 }
-    ensures { means_step result ≡ missing block.now at (because_of fault) }
+    ensures { means_step (Ok result) ≡ missing block.now at (because_of fault) }
 {
     let decided = fault.1.0;
     let last = decided + high_run(&block[decided..]);
     let high = between(at, last);
     if block.len() <= last {
-        return Ok(Step::Tail(Count(high), Cursor::at(at)));
+        return Step::Tail(Count(high), Cursor::at(at));
     }
     let count = high + 1;
-    Ok(Step::Gap(fault, Count(count), Cursor::at(at + count)))
+    Step::Gap(fault, Count(count), Cursor::at(at + count))
 }
 
 // What a step says at a start before the block's end, in full: for groups of more than one byte, gaps and tails. It and the step are part
 // of each caller, where the rule is known for the most part (docs/SPEED.md).
 #[inline(always)]
-fn long(block: &[u8], at: usize, rule: Rule) -> Result<Step, Refusal>
+fn long(block: &[u8], at: usize, rule: Rule) -> Step
     requires { at < length block.now }
-    ensures { means_step result ≡ standing rule block.now at }
+    ensures { means_step (Ok result) ≡ standing rule block.now at }
 {
     match rule {
         Rule::Unsigned => match read_u64(block, Place(at)) {
-            Ok((v, count)) => {
-                Ok(Step::Number(Value::Unsigned(v), count, Cursor::at(at + count.0)))
-            }
+            Ok((v, count)) => { Step::Number(Value::Unsigned(v), count, Cursor::at(at + count.0)) }
             Err(fault) => unread(block, at, fault),
         },
         Rule::Signed => match read_i64(block, Place(at)) {
-            Ok((v, count)) => {
-                Ok(Step::Number(Value::Signed(v), count, Cursor::at(at + count.0)))
-            }
+            Ok((v, count)) => { Step::Number(Value::Signed(v), count, Cursor::at(at + count.0)) }
             Err(fault) => unread(block, at, fault),
         },
     }
@@ -151,7 +147,7 @@ impl Cursor {
         if !is_high_8_bit_set(b) {
             return Ok(Step::Number(alone(rule, b), Count(1), Cursor::at(at + 1)));
         }
-        long(block, at, rule)
+        Ok(long(block, at, rule))
     }
 }
 

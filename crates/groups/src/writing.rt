@@ -1,9 +1,9 @@
 // How many bytes spell a number, looked up; and the loop of the source's `serialize`, for every kind, with the room known before the first
 // byte is stored. With m for v, or for -v-1 below zero, the seven bits of each byte are those of m, or below zero 127 less those of m.
-ghost use Rattle.std.specs.Prelude.{◌≡◌, false, ◌<◌, get_or};
+ghost use Rattle.std.specs.Prelude.{◌≡◌, false, ◌<◌};
 ghost use Rattle.std.specs.Int.Signed.{mag};
 ghost use Rattle.words.specs.Lays.{Lays, Takes};
-ghost use Rattle.groups.specs.Form.{say, spell, growth, below as is_below};
+ghost use Rattle.groups.specs.Form.{say, spell, below as is_below};
 ghost use Rattle.groups.specs.Inner.{groups};
 ghost use Rattle.groups.specs.Promise.{SpelledLength, Stores};
 

@@ -1,5 +1,5 @@
 // Writing a list: the room is known before the first byte is stored.
-ghost use Rattle.std.specs.Prelude.{◌≡◌, ◌+◌, ◌≤◌, length};
+ghost use Rattle.std.specs.Prelude.{◌+◌, ◌≤◌, length, Ok};
 ghost use Rattle.words.specs.Inner.{Puts};
 ghost use Rattle.words.specs.Lays.{Lays, Takes};
 ghost use Rattle.words.specs.Promise.{HasRoom};

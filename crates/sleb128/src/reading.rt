@@ -88,10 +88,9 @@ pub fn read_i64(bytes: &[u8], start: Place) -> Result<(i64, Count), Fault>
         Walked::Closed {
             sum,
             weight,
-            high: count,
+            high: Count(high),
             last,
         } => {
-            let high = count.0;
             let ends = at + high;
             let below = 63 < last;
             let up = weight - 1;

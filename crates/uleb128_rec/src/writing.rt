@@ -31,6 +31,7 @@ pub fn write_u64_rec(v: u64, buffer: &mut [u8], place: Place) -> Result<Count, R
     if !has_room(buffer.len(), place, needed) {
         return Err(Refusal::NoRoom);
     }
-    let count = write_rest(v, buffer, place.0, needed.0);
+    let at = place.0;
+    let count = write_rest(v, buffer, at, needed.0);
     Ok(Count(count))
 }

@@ -21,7 +21,7 @@ overflow_add-last c =
 pub returns-then-last-block : goal.returns-then-last-block
 returns-then-last-block c =
     let e = c.high_run.ensures ∙ run_taken c.args.block.now (c.args.place.0 - 1) in
-    set_found _ _ (search rules) (search rules) (search rules) _ (rw (c.at.ensures, e)) (rw e at c.if-last-block.true)
+    set_found _ _ (search rules) (search rules) (search rules) _ (omega (arith, c.at.ensures, e)) (rw e at c.if-last-block.true)
 
 pub returns : goal.returns
 returns c =

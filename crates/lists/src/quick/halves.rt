@@ -1,5 +1,5 @@
 // The second pass: the numbers of a block without a fault, stored in two streams.
-ghost use Rattle.std.specs.Prelude.{◌≡◌, ◌≤◌, length};
+ghost use Rattle.std.specs.Prelude.{◌≤◌, length};
 ghost use Rattle.blocks.specs.GroupsAndTail.{Start};
 ghost use Rattle.lists.specs.InnerHalves.{Smalls, RestFits, RestStored, HalvesFit, HalvesStored, AllFit, AllStored};
 

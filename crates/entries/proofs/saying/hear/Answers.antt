@@ -1,6 +1,6 @@
 -- `entries::hear` keeps what it promises inside the crate: field by field, `Heard` holds, and the turn is absurd or it isn't.
 use Rattle.std.specs.Int.Signed.{mag}
-use Rattle.std.proofs.Common.{ℕ, ◌≡◌, ◌+◌, ◌<◌, ◌^◌, arith, List, [], ◌∷◌, ℤ}
+use Rattle.std.proofs.Common.{ℕ, ◌≡◌, ◌+◌, ◌<◌, ◌^◌, arith, subst, List, [], ◌∷◌, ℤ}
 use Rattle.words.specs.Answer.{gives}
 use Rattle.groups.specs.Group.{Bytes}
 use Rattle.groups.specs.Width.{read}
@@ -11,7 +11,8 @@ use Rattle.sleb128.specs.Signed.{i64}
 use Rattle.sleb128.proofs.Widths as signed-widths
 use Rattle.blocks.specs.Block.{unsigned, signed, read_by}
 use Rattle.blocks.specs.declared.Rule.TheVariants.{Unsigned, Signed}
-use Rattle.entries.specs.Saying.{fields, numbers_of}
+use Rattle.entries.specs.Inner.{Tells}
+use Rattle.entries.specs.Saying.{Absurd, fields, numbers_of}
 use Rattle.entries.proofs.NextMarks.{told_yes, told_no}
 use Rattle.entries.proofs.SaysGroups.{absurd_said}
 use Rattle.entries.proofs.Heard.{Heard, none_heard, number_heard, fault_heard, all_heard, read_some, read_none}
@@ -65,7 +66,7 @@ returns-then-is_absurd c =
     let d = read_some c.read_i64.result c.read_i64.ensures.is c.ok-3.ensures.value c.in_ok-turn.was in
     let h : mag c.in_ok-turn.turn < 2 ^ 63 = omega arith in
     absurd_said {x = record { segment = c.in_ok-segment.segment; sentence = c.in_ok-sentence.sentence; turn = c.in_ok-turn.turn }}
-    (all_heard (third (λ i. (c.type_inv.bytes i).fits) a b d)) (told_yes (rw (word_back _ h) at c.is_absurd.ensures) c.if-is_absurd.true)
+    (all_heard (third (λ i. (c.type_inv.bytes i).fits) a b d)) (told_yes (subst (λ (v : ℤ). Tells (Absurd v) c.is_absurd.result) (word_back _ h) c.is_absurd.ensures) c.if-is_absurd.true)
 
 pub overflow_add-result : goal.overflow_add-result
 overflow_add-result c =

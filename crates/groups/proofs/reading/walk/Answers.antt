@@ -1,8 +1,9 @@
 -- `groups::walk` meets its promise: each way out of its loop is a law of `WalkLoop`.
 use borrow.Author.Tests.{leb-true, leb-false}
-use Rattle.std.proofs.Common.{◌≡◌, ℕ, sym, arith}
+use Rattle.std.proofs.Common.{◌≡◌, ◌∙◌, ℕ, ap, sym, arith}
 use Rattle.std.proofs.lemmas.List.{length-take}
 use Rattle.groups.proofs.WalkLoop.{walk_past, none_walked, byte_taken, walk_closes, walk_overruns, one_walked, walk_runs_dry, part_fits, weight_fits, walks_from}
+use Rattle.groups.specs.declared.Walked.TheVariants.{Open}
 use Rattle.groups.proofs.reading.walk.Goals as goal
 
 pub returns-then-bytes-start : goal.returns-then-bytes-start
@@ -38,7 +39,7 @@ pub returns-in-None : goal.returns-in-None
 returns-in-None c =
     let all : c.min-most.result ≡ c.loop-high.high = omega (arith, length-take {A = ℕ}) in
     walks_from (omega arith)
-    (rw all (walk_runs_dry c.loop-high.invariant (omega (arith, c.in-None.ensures.lookup)) (omega arith)))
+    (ap (λ (n : ℕ). Open (record { 0 = n })) all ∙ walk_runs_dry c.loop-high.invariant (omega (arith, c.in-None.ensures.lookup)) (omega arith))
 
 pub returns-in-Some : goal.returns-in-Some
 returns-in-Some c =
