@@ -14,11 +14,11 @@ use Rattle.words.specs.declared.Refusal.TheVariants as Why
 use Rattle.blocks.specs.Block.{block_limit}
 use Rattle.entries.specs.Standing.{EndsAt, NextMark}
 use Rattle.entries.specs.Saying.{SaysEntry, Good, Verdict, good, bad, Judged, is_good, is_bad}
-use Rattle.entries.specs.Inner.{Hears}
+use Rattle.entries.specs.Inner.{FirstMark, Hears}
 use Rattle.entries.specs.Promise.{too_long, past, no_mark, ended, Answered, row, found, ReadsEntry}
 use Rattle.entries.specs.declared.Entry.{Entry}
 use Rattle.entries.specs.declared.ReadEntry.TheVariants as R
-use Rattle.entries.proofs.NextMarks.{mark_inside, next_within, next_is, next_none}
+use Rattle.entries.proofs.NextMarks.{mark_inside, next_within, first_next, first_none}
 use Rattle.entries.proofs.Standing.{entry_there, entry_end}
 use Rattle.entries.proofs.SaysGroups.{one_said, said_alone, said_within}
 use Rattle.entries.proofs.NoMarkInside.{fields_refuse, no_mark_said, part_behind}
@@ -57,54 +57,53 @@ module _ {s : List ℕ} {p : ℕ} where
     pub place_past : length s < p → ReadsEntry s p (Err Why.Place)
     place_past h = record { answer = row (past short h) }
 
-    module _ {m : ℕ} (a : NextMark s p m) where
-      pub none_ahead : p ≤ length s → length s ≤ m → ReadsEntry s p (Err Why.NoStart)
-      none_ahead h l = record { answer = row (no_mark short h (next_none a l)) }
+    pub none_ahead : p ≤ length s → FirstMark s p None → ReadsEntry s p (Err Why.NoStart)
+    none_ahead h f = record { answer = row (no_mark short h (first_none f)) }
 
-      module _ (inside : m < length s) where
-        judged : (v : Verdict) {n : ℕ} → NextMark s (m + 2) n → Judged (take (n - (m + 2)) (drop (m + 2) s)) v → Answered s p (ended v n)
-        judged v {n} b j =
-            let k = next_is a inside in
-            found {v = v} short (record {
-              place = m;
-              count = length (take (n - m) (drop m s));
-              first = a;
-              entry = record { bytes = take (n - m) (drop m s); stands = entry_there k b; count = refl; judged = rw (behind_mark s m n b.from) j };
-              ends = entry_end k b;
-            })
+    module _ {m : ℕ} (f : FirstMark s p (Some m)) where
+      judged : (v : Verdict) {n : ℕ} → NextMark s (m + 2) n → Judged (take (n - (m + 2)) (drop (m + 2) s)) v → Answered s p (ended v n)
+      judged v {n} b j =
+          let k = f.is.2 in
+          found {v = v} short (record {
+            place = m;
+            count = length (take (n - m) (drop m s));
+            first = first_next f;
+            entry = record { bytes = take (n - m) (drop m s); stands = entry_there k b; count = refl; judged = rw (behind_mark s m n b.from) j };
+            ends = entry_end k b;
+          })
 
-        first_inside : m + 2 ≤ length s
-        first_inside = mark_inside (next_is a inside)
+      first_inside : m + 2 ≤ length s
+      first_inside = mark_inside f.is.2
 
-        -- numbers behind the mark, up to the place where the entry can end
-        module _ {x : Entry} {n : ℕ} (within : n ≤ length (drop (m + 2) s)) (said : SaysEntry (drop (m + 2) s) x (drop n (drop (m + 2) s))) where
-          ends_next : EndsAt s (m + 2 + n) → NextMark s (m + 2) (m + 2 + n)
-          ends_next there = record {
-            from = omega arith;
-            none_before = λ q h l k.
-                no_mark_said fields_refuse said.says (q - (m + 2)) (omega (arith, length-drop n (drop (m + 2) s))) (part_behind s (m + 2) q h first_inside k);
-            there = there;
-          }
+      -- numbers behind the mark, up to the place where the entry can end
+      module _ {x : Entry} {n : ℕ} (within : n ≤ length (drop (m + 2) s)) (said : SaysEntry (drop (m + 2) s) x (drop n (drop (m + 2) s))) where
+        ends_next : EndsAt s (m + 2 + n) → NextMark s (m + 2) (m + 2 + n)
+        ends_next there = record {
+          from = omega arith;
+          none_before = λ q h l k.
+              no_mark_said fields_refuse said.says (q - (m + 2)) (omega (arith, length-drop n (drop (m + 2) s))) (part_behind s (m + 2) q h first_inside k);
+          there = there;
+        }
 
-          pub entry_good : EndsAt s (m + 2 + n) → ReadsEntry s p (Ok (R.Good x (record { 0 = m + 2 + n })))
-          entry_good there =
-              let e : n ≡ m + 2 + n - (m + 2) = omega arith in
-              record { answer = judged (good x) (ends_next there) (subst (λ (k : ℕ). Judged (take k (drop (m + 2) s)) (good x)) e (is_good (record { says = said_alone n within said.says; sensible = said.sensible }))) }
+        pub entry_good : EndsAt s (m + 2 + n) → ReadsEntry s p (Ok (R.Good x (record { 0 = m + 2 + n })))
+        entry_good there =
+            let e : n ≡ m + 2 + n - (m + 2) = omega arith in
+            record { answer = judged (good x) (ends_next there) (subst (λ (k : ℕ). Judged (take k (drop (m + 2) s)) (good x)) e (is_good (record { says = said_alone n within said.says; sensible = said.sensible }))) }
 
-        -- the end of an entry whose numbers, if there are any, don't end with it
-        module _ {n : ℕ} (b : NextMark s (m + 2) n) where
-          whole : {y : Entry} → Good (take (n - (m + 2)) (drop (m + 2) s)) y → SaysEntry (drop (m + 2) s) y (drop (n - (m + 2)) (drop (m + 2) s))
-          whole g = record { says = said_within (n - (m + 2)) g.says; sensible = g.sensible }
+      -- the end of an entry whose numbers, if there are any, don't end with it
+      module _ {n : ℕ} (b : NextMark s (m + 2) n) where
+        whole : {y : Entry} → Good (take (n - (m + 2)) (drop (m + 2) s)) y → SaysEntry (drop (m + 2) s) y (drop (n - (m + 2)) (drop (m + 2) s))
+        whole g = record { says = said_within (n - (m + 2)) g.says; sensible = g.sensible }
 
-          pub entry_faulty : ((y : Entry) (rest : List ℕ) → SaysEntry (drop (m + 2) s) y rest → ⊥) → ReadsEntry s p (Ok (R.Bad Why.Entry (record { 0 = n })))
-          entry_faulty none = record { answer = judged bad b (is_bad (λ y g. none y (drop (n - (m + 2)) (drop (m + 2) s)) (whole g))) }
+        pub entry_faulty : ((y : Entry) (rest : List ℕ) → SaysEntry (drop (m + 2) s) y rest → ⊥) → ReadsEntry s p (Ok (R.Bad Why.Entry (record { 0 = n })))
+        entry_faulty none = record { answer = judged bad b (is_bad (λ y g. none y (drop (n - (m + 2)) (drop (m + 2) s)) (whole g))) }
 
-          pub entry_longer : {x : Entry} {k : ℕ} → k ≤ length (drop (m + 2) s) → SaysEntry (drop (m + 2) s) x (drop k (drop (m + 2) s))
-              → (EndsAt s (m + 2 + k) → ⊥) → ReadsEntry s p (Ok (R.Bad Why.Entry (record { 0 = n })))
-          entry_longer {k = k} h said none = record {
-            answer = judged bad b (is_bad (λ y g.
-                let l = drop (m + 2) s in
-                let e : length (drop k l) ≡ length (drop (n - (m + 2)) l) = ap length (one_said said.says (whole g).says).1 in
-                let i : n ≡ m + 2 + k = omega (arith, length-drop k l, length-drop (n - (m + 2)) l, length-drop (m + 2) s, b.from, next_within b) in
-                none (subst (EndsAt s) i b.there)));
-          }
+        pub entry_longer : {x : Entry} {k : ℕ} → k ≤ length (drop (m + 2) s) → SaysEntry (drop (m + 2) s) x (drop k (drop (m + 2) s))
+            → (EndsAt s (m + 2 + k) → ⊥) → ReadsEntry s p (Ok (R.Bad Why.Entry (record { 0 = n })))
+        entry_longer {k = k} h said none = record {
+          answer = judged bad b (is_bad (λ y g.
+              let l = drop (m + 2) s in
+              let e : length (drop k l) ≡ length (drop (n - (m + 2)) l) = ap length (one_said said.says (whole g).says).1 in
+              let i : n ≡ m + 2 + k = omega (arith, length-drop k l, length-drop (n - (m + 2)) l, length-drop (m + 2) s, b.from, next_within b) in
+              none (subst (EndsAt s) i b.there)));
+        }

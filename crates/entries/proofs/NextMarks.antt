@@ -9,11 +9,10 @@
 --   one_next                                       there is one next mark
 --   next_here                                      a mark at the place itself is the next one
 --   next_is, next_none                             the next one is a mark where it stands before the end, and where it doesn't, there is none
---   Seeking s p at                                 from p up to at, no mark was found
---   seek_start, seek_on, seek_found, seek_end      the loop's turns
 --   some_next                                      there is a next mark, or the end
+--   first_next, first_none, first_or_end           what `next_mark` answers: the next mark; that there is none; the next mark, or the end
 use Prim.Native.Nat.{ℕ, zero, suc, ◌+◌, ◌-◌, ◌≤◌, ◌<◌}
-use mathlib.Core.Path.{◌≡◌, ap, sym, ◌∙◌}
+use mathlib.Core.Path.{◌≡◌, refl, ap, sym, ◌∙◌}
 use mathlib.Core.List.{List, [], ◌∷◌}
 use mathlib.Core.Bool.{Bool, true, false, not}
 use mathlib.Core.Logic.{◌⊎◌, inl, inr, ⊎_elim}
@@ -22,14 +21,16 @@ use borrow.Author.Tests.{lt-ltb}
 use lib.Dec.{ltb}
 use lib.ListN.{length, get_or, take, drop, length-drop}
 use lib.Seq.{get_or-drop, take-length}
+use Rattle.std.specs.Prelude.{Option, Some, None}
 use Rattle.std.specs.List.{slice_range}
+use Rattle.std.specs.Option.{unwrap_or}
 use Rattle.words.proofs.Cases.{by_order, by_test}
 use Rattle.bits.specs.Macros.{is_high_8_bit_set_lem}
 use Rattle.bits.proofs.HighBit.{bit_clear, bit_set}
 use Rattle.groups.specs.Group.{Group, one, more}
 use Rattle.blocks.specs.GroupsAndTail.{GroupAt}
 use Rattle.entries.specs.Standing.{mark, NextMark}
-use Rattle.entries.specs.Inner.{Tells}
+use Rattle.entries.specs.Inner.{Tells, FirstMark}
 
 pub mark_group : Group mark
 mark_group = more {b = 128} {g = 0 ∷ []} (omega arith) (omega arith) (one {b = 0} (omega arith))
@@ -85,28 +86,6 @@ module _ {s : List ℕ} {p m : ℕ} (a : NextMark s p m) where
   pub next_none : length s ≤ m → (q : ℕ) → p ≤ q → GroupAt s q mark → ⊥
   next_none h q l k = a.none_before q l (omega (arith, mark_inside k)) k
 
-pub record Seeking (s : List ℕ) (p at : ℕ) : Type 0 where
-  pub behind : p ≤ at
-  pub within : at ≤ length s
-  pub none_passed : (q : ℕ) → p ≤ q → q < at → GroupAt s q mark → ⊥
-
-pub seek_start : (s : List ℕ) (p : ℕ) → p ≤ length s → Seeking s p p
-seek_start s p h = record { behind = omega arith; within = h; none_passed = λ q a b k. omega arith }
-
-module _ {s : List ℕ} {p at : ℕ} (g : Seeking s p at) where
-  pub seek_on : at < length s → (GroupAt s at mark → ⊥) → Seeking s p (at + 1)
-  seek_on h none = record {
-    behind = omega (arith, g.behind);
-    within = omega arith;
-    none_passed = λ q a b k. by_order q at (λ l. g.none_passed q a l k) (λ l. let i : q ≡ at = omega arith in none (rw i at k));
-  }
-
-  pub seek_found : GroupAt s at mark → NextMark s p at
-  seek_found k = record { from = g.behind; none_before = g.none_passed; there = inl k }
-
-  pub seek_end : length s ≤ at → NextMark s p at
-  seek_end h = record { from = g.behind; none_before = g.none_passed; there = inr (omega (arith, g.within)) }
-
 pub told_yes : {P : Type 0} {t : Bool} → Tells P t → t ≡ true → P
 told_yes f e = rw e at f
 
@@ -143,12 +122,30 @@ mark_or_not s p =
     (λ z. by_order (get_or s (p - 1) 0) 128 (λ o. inl (mark_there s p h (omega arith) n (λ some. o))) (λ o. inr (λ k. omega (arith, mark_start k z))))))))
     (λ h. inr (λ k. omega (arith, mark_inside k)))
 
-seek : {s : List ℕ} {p : ℕ} (n at : ℕ) → length s - at < n → Seeking s p at → (m : ℕ) × NextMark s p m
-seek zero at h g = absurd (omega arith)
-seek {s} {p} (suc n) at h g =
-    by_order at (length s)
-    (λ i. ⊎_elim (λ k. (at, seek_found g k)) (λ (none : GroupAt s at mark → ⊥). seek n (at + 1) (omega arith) (seek_on g i none)) (mark_or_not s at))
-    (λ i. (at, seek_end g i))
+next_later : {s : List ℕ} {p m : ℕ} → (GroupAt s p mark → ⊥) → NextMark s (p + 1) m → NextMark s p m
+next_later {p = p} none a = record {
+  from = omega (arith, a.from);
+  none_before = λ q h l k. by_order p q (λ i. a.none_before q (omega arith) l k) (λ i. let e : q ≡ p = omega arith in none (rw e at k));
+  there = a.there;
+}
+
+-- there is one, or the end, n places ahead
+some_ahead : (n : ℕ) (s : List ℕ) (p : ℕ) → p + n ≡ length s → (m : ℕ) × NextMark s p m
+some_ahead zero s p e = (p, record { from = omega arith; none_before = λ q h l k. omega arith; there = inr (omega arith) })
+some_ahead (suc n) s p e =
+    ⊎_elim (λ k. (p, next_here k)) (λ (none : GroupAt s p mark → ⊥). let w = some_ahead n s (p + 1) (omega arith) in (w.0, next_later none w.1)) (mark_or_not s p)
 
 pub some_next : (s : List ℕ) (p : ℕ) → p ≤ length s → (m : ℕ) × NextMark s p m
-some_next s p h = seek (suc (length s - p)) p (omega arith) (seek_start s p h)
+some_next s p h = some_ahead (length s - p) s p (omega arith)
+
+-- what the search answers
+module _ {s : List ℕ} {p : ℕ} where
+  pub first_next : {m : ℕ} → FirstMark s p (Some m) → NextMark s p m
+  first_next f = record { from = f.is.0; none_before = f.is.3; there = inl f.is.2 }
+
+  pub first_none : FirstMark s p None → (q : ℕ) → p ≤ q → GroupAt s q mark → ⊥
+  first_none f q h k = f.is q h (omega (arith, mark_inside k)) k
+
+  pub first_or_end : p ≤ length s → {r : Option ℕ} {n : ℕ} → FirstMark s p r → n ≡ unwrap_or r (length s) → NextMark s p n
+  first_or_end h {r = Some m} f e = rw e (first_next f)
+  first_or_end h {r = None} f e = rw e (record { from = h; none_before = f.is; there = inr refl })

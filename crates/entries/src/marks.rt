@@ -1,8 +1,8 @@
 // Where entries begin and end: the search for the next mark, by its two bytes and the one before them.
 ghost use Rattle.std.specs.Prelude.{◌<◌, ◌≤◌, length};
 ghost use Rattle.blocks.specs.GroupsAndTail.{GroupAt};
-ghost use Rattle.entries.specs.Inner.{Tells};
-ghost use Rattle.entries.specs.Standing.{mark, EndsAt, NextMark};
+ghost use Rattle.entries.specs.Inner.{Tells, FirstMark};
+ghost use Rattle.entries.specs.Standing.{mark, EndsAt};
 
 use bits::is_high_8_bit_set;
 
@@ -25,15 +25,9 @@ pub(crate) fn ends(block: &[u8], at: usize) -> bool
     at == block.len() || is_mark(block, at)
 }
 
-// The place of the least mark at the place or later, or, where there is none, the block's end.
-pub(crate) fn next_mark(block: &[u8], from: usize) -> usize
-    requires { from ≤ length block.now }
-    ensures { NextMark block.now from result }
+// The place of the least mark at the place or later.
+pub(crate) fn next_mark(block: &[u8], from: usize) -> Option<usize>
+    ensures { FirstMark block.now from result }
 {
-    for at in from..block.len() {
-        if is_mark(block, at) {
-            return at;
-        }
-    }
-    block.len()
+    (from..block.len()).find(|at| is_mark(block, *at))
 }

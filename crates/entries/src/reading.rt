@@ -21,10 +21,9 @@ pub fn read_entry(block: &[u8], place: Place) -> Result<ReadEntry, Refusal>
     if block.len() < from {
         return Err(Refusal::Place);
     }
-    let at = next_mark(block, from);
-    if block.len() <= at {
+    let Some(at) = next_mark(block, from) else {
         return Err(Refusal::NoStart);
-    }
+    };
     let first = at + 2;
     if let Some((entry, count)) = hear(&block[first..]) {
         let end = first + count;
@@ -32,6 +31,6 @@ pub fn read_entry(block: &[u8], place: Place) -> Result<ReadEntry, Refusal>
             return Ok(ReadEntry::Good(entry, Place(end)));
         }
     }
-    let end = next_mark(block, first);
+    let end = next_mark(block, first).unwrap_or(block.len());
     Ok(ReadEntry::Bad(Refusal::Entry, Place(end)))
 }
