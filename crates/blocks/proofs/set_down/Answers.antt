@@ -1,6 +1,6 @@
 -- `blocks::set_down` meets its promise: a law of `Rows` for each answer.
 use Rattle.std.proofs.Common.{◌-◌, refl, ◌∙◌, arith, rules}
-use Rattle.blocks.proofs.HighRun.{run_taken, run_inside}
+use Rattle.blocks.proofs.HighRun.{run_taken}
 use Rattle.blocks.proofs.Rows.{set_too_long, set_past, set_front, set_found, set_none}
 use Rattle.blocks.proofs.set_down.Goals as goal
 
@@ -12,11 +12,6 @@ returns-then-block-at c = set_past _ _ c.if-block-gt-BLOCK_LIMIT.false c.if-bloc
 
 pub returns-then-at-lt1 : goal.returns-then-at-lt1
 returns-then-at-lt1 c = set_front _ _ c.if-block-gt-BLOCK_LIMIT.false c.if-block-at.false _ refl c.if-at-lt1.true
-
-pub overflow_add-last : goal.overflow_add-last
-overflow_add-last c =
-    let e = c.high_run.ensures ∙ run_taken c.args.block.now (c.args.place.0 - 1) in
-    omega (arith, e, run_inside c.args.block.now (c.args.place.0 - 1) (search rules))
 
 pub returns-then-last-block : goal.returns-then-last-block
 returns-then-last-block c =

@@ -19,9 +19,6 @@ returns-then-not-is_high_8_bit_set c =
     (walk_closes c.loop-high.invariant (byte_taken _ _ c.loop-high-test.true) (omega (arith, length-take {A = ℕ})) (omega (arith, length-take {A = ℕ}))
     (leb-false _ _ (sym c.if-not-is_high_8_bit_set.ensures)))
 
-pub overflow_mul-sum : goal.overflow_mul-sum
-overflow_mul-sum c = omega (arith, part_fits c.loop-high.invariant c.take_low_7_bits.result, length-take {A = ℕ})
-
 pub overflow_add-sum : goal.overflow_add-sum
 overflow_add-sum c = omega (arith, part_fits c.loop-high.invariant c.take_low_7_bits.result, length-take {A = ℕ})
 

@@ -3,14 +3,11 @@ use Rattle.std.proofs.Common.{◌≡◌, ℕ, ◌+◌, sym, arith, length-drop}
 use Rattle.std.proofs.lemmas.List.{length-take}
 use Rattle.words.proofs.Lays.{room_refused, room_there}
 use Rattle.groups.proofs.Spelling.{length_groups}
-use Rattle.groups.proofs.StoreLoop.{none_stored, one_stored, all_stored}
+use Rattle.groups.proofs.StoreLoop.{one_stored, all_stored}
 use Rattle.groups.proofs.writing.lay.Goals as goal
 
 pub returns-then-not-has_room : goal.returns-then-not-has_room
 returns-then-not-has_room c = room_refused _ _ _ c.has_room.ensures (sym (length_groups _ _ _)) c.if-not-has_room.true
-
-pub loop-byte-init : goal.loop-byte-init
-loop-byte-init c = none_stored _ _ _ c.requires
 
 pub loop-byte-preserved : goal.loop-byte-preserved
 loop-byte-preserved c =

@@ -1,6 +1,6 @@
 -- `item` and `items` meet their contracts, a law for each return.
 use Rattle.std.proofs.Common.{arith}
-use Rattle.phrases.proofs.Passing.{at_end, at_leaf, at_bottom, at_branch, at_empty, none_done, one_done, all_done, no_item_left}
+use Rattle.phrases.proofs.Passing.{at_end, at_leaf, at_bottom, at_branch, at_empty, one_done, all_done, no_item_left}
 use Rattle.phrases.proofs.reading.+item_items.Goals as goal
 
 pub item-returns-in_err-n : goal.item-returns-in_err-n
@@ -29,6 +29,3 @@ items-loop-preserved t c = one_done c.loop.invariant c.loop-test.true c.in_ok-at
 
 pub items-returns : goal.items-returns
 items-returns t c = all_done c.loop.invariant (omega arith)
-
-pub items-loop-init : goal.items-loop-init
-items-loop-init t c = none_done _ _ _ _ c.requires

@@ -1,7 +1,6 @@
 -- `lists::fill_halves` keeps what it promises inside the crate: the loop holds `Filling`, and each part of a turn is a law of `HalvesLoop`.
 use borrow.Rule.Slice.PartMut.{mid_len, same_len_mid}
 use Rattle.std.proofs.Common.{arith, rules, ◌-◌, ◌∙◌}
-use Rattle.lists.proofs.quick.Stream.{stream_rest}
 use Rattle.lists.proofs.quick.Steps.{rest_long, step_small}
 use Rattle.lists.proofs.quick.HalvesLoop.{filling_begins, first_end, second_end, filling_ends, accepts_first, accepts_second, first_inside, second_inside, turn_stored, ready_first, ready_second, turn_ends}
 use Rattle.lists.proofs.quick.halves.fill_halves.Goals as goal
@@ -64,15 +63,6 @@ loop-n-preserved c =
     let a = step_small c.args.s.now _ _ _ (ready_first t).1 c.small-k.ensures.stored in
     let b = step_small c.args.s.now _ _ _ (ready_second t a).1 c.small-k2.ensures.stored in
     turn_ends t a b
-
-pub rest-requires : goal.rest-requires
-rest-requires c = let f = c.loop-n.invariant in stream_rest f.first (mid_len _ _ c.loop-n.numbers (first_end f))
-
-pub rest-requires-2 : goal.rest-requires-2
-rest-requires-2 c =
-    let f = c.loop-n.invariant in
-    let e = same_len_mid c.loop-n.n (c.args.half - c.loop-n.n) c.loop-n.numbers c.rest.new.numbers c.rest.auto.numbers in
-    stream_rest f.second (mid_len _ _ _ (omega (arith, second_end f, e)))
 
 pub returns : goal.returns
 returns c =

@@ -1,6 +1,6 @@
 -- `rest` keeps what it promises inside the crate: the loop holds `Poured`, and each turn is a law of `RestLoop`.
 use Rattle.std.proofs.Common.{arith}
-use Rattle.lists.proofs.quick.RestLoop.{none_poured, one_poured, not_refused, all_poured}
+use Rattle.lists.proofs.quick.RestLoop.{none_poured, one_poured, not_refused}
 use Rattle.lists.proofs.quick.halves.rest.Goals as goal
 
 pub loop-number-init : goal.loop-number-init
@@ -15,6 +15,3 @@ loop-number-preserved c = (one_poured c.loop-number.invariant c.loop-number-test
 
 pub returns-in-Err : goal.returns-in-Err
 returns-in-Err c = not_refused c.loop-number.invariant c.loop-number-test.true (rw c.in-Err.is at c.read_u64.ensures.is)
-
-pub returns : goal.returns
-returns c = all_poured c.loop-number.invariant (omega arith) (omega arith)

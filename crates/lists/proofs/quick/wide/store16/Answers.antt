@@ -1,15 +1,9 @@
 -- `store16` keeps what it promises: each byte is stored behind those before it, and the first eight tell how many are small, or the second.
-use Rattle.std.proofs.Common.{◌≡◌, take, drop, length, ap, ◌∙◌, arith}
+use Rattle.std.proofs.Common.{◌≡◌, take, drop, arith}
 use Rattle.std.proofs.lemmas.List.{take_rest}
 use Rattle.lists.specs.InnerWord.{smalls}
-use Rattle.lists.proofs.quick.BytesStored.{next_stored, all_stored, some_of_eight, all_of_eight}
+use Rattle.lists.proofs.quick.BytesStored.{all_stored, some_of_eight, all_of_eight}
 use Rattle.lists.proofs.quick.wide.store16.Goals as goal
-
-pub loop-k-preserved : goal.loop-k-preserved
-loop-k-preserved c =
-    let h = rw c.unwrap.ensures at c.as_array.ensures.cases in
-    let l : length c.unwrap.result.now ≡ 16 = ap length h.same ∙ h.long in
-    next_stored _ c.unwrap.result.now c.loop-k.invariant (omega arith) c.from.ensures
 
 pub returns-then-c-lt8 : goal.returns-then-c-lt8
 returns-then-c-lt8 c =
