@@ -83,16 +83,15 @@ fn write_list<'a>(
     Some(Wrote(lists::write_list(numbers, lent, place), lent))
 }
 
-// The answer slice of so many numbers, unfilled.
-fn unfilled(room: u64, answer: &mut [u64]) -> Option<&mut [u64]> {
-    let slice = answer.get_mut(..room as usize)?;
-    slice.fill(UNFILLED);
-    Some(slice)
+// The answer slice of so many numbers. It is unfilled only where the op is answered: to fill it takes longer than to refuse.
+fn answer_slice(room: u64, answer: &mut [u64]) -> Option<&mut [u64]> {
+    answer.get_mut(..room as usize)
 }
 
 // Reads a block into an answer slice of so many numbers.
 fn read_strict<'a>(room: u64, block: &[u8], answer: &'a mut [u64]) -> Option<Filled<'a, NotRead>> {
-    let slice = unfilled(room, answer)?;
+    let slice = answer_slice(room, answer)?;
+    slice.fill(UNFILLED);
     Some(Filled(lists::read_strict(block, slice), slice))
 }
 
@@ -104,9 +103,10 @@ fn read_phrase<'a>(
     list: &mut [u64],
     answer: &'a mut [u64],
 ) -> Option<Filled<'a, Refusal>> {
-    let slice = unfilled(room, answer)?;
+    let slice = answer_slice(room, answer)?;
     let (listed, _) = take_listed(count, bytes)?;
     let numbers = numbers_of(listed, list)?;
+    slice.fill(UNFILLED);
     Some(Filled(phrases::read_phrase(numbers, slice), slice))
 }
 
@@ -141,7 +141,8 @@ pub(crate) fn answer(
         17 => turn(a, b).say(out),
         18 => {
             let Count(n) = listing::lay_listing(bytes, text);
-            write!(out, "text {}", Hex(&text[..n]))
+            write!(out, "text ")?;
+            Hex(&text[..n]).say(out)
         }
         19 => slips::read_setting(bytes, at_a)
             .map(|(setting, count)| Slip(setting, count))

@@ -6,10 +6,16 @@ use groups::Value;
 use lists::{NotRead, Numbers};
 use slips::{Range, Setting};
 use std::fmt::Display;
-use std::io::Write;
-use std::{fmt, io};
+use std::io::{self, Write};
+use texts::Text;
 use turns::Turn;
 use words::{Count, Fault, Place, Refusal};
+
+// So many numbers of an answer slice, or bytes in hexadecimal, are put together before they are written. A line may have thousands of either:
+// by a format for each it takes up to eight times as long.
+const NUMBERS: usize = 32;
+
+const BYTES: usize = 64;
 
 pub(crate) trait Say {
     fn say(self, out: &mut impl Write) -> io::Result<()>;
@@ -158,8 +164,10 @@ pub(crate) struct Wrote<'a>(pub(crate) Result<Count, Refusal>, pub(crate) &'a [u
 
 impl Say for Wrote<'_> {
     fn say(self, out: &mut impl Write) -> io::Result<()> {
-        self.0.say(out)?;
-        write!(out, " {}", Hex(self.1))
+        let Wrote(answer, lent) = self;
+        answer.say(out)?;
+        out.write_all(b" ")?;
+        Hex(lent).say(out)
     }
 }
 
@@ -170,24 +178,42 @@ impl<E: Say> Say for Filled<'_, E> {
     fn say(self, out: &mut impl Write) -> io::Result<()> {
         let Filled(answer, slice) = self;
         answer.say(out)?;
-        for v in slice {
-            write!(out, " {v}")?;
+        for part in slice.chunks(NUMBERS) {
+            let mut room = [0; 21 * NUMBERS];
+            let mut text = Text {
+                buffer: &mut room,
+                filled: Count(0),
+            };
+            for v in part {
+                text.word(b" ");
+                text.decimal(*v);
+            }
+            let n = text.filled.0.min(room.len());
+            out.write_all(&room[..n])?;
         }
         Ok(())
     }
 }
 
+static DIGITS: [u8; 16] = *b"0123456789abcdef";
+
 // Bytes in hexadecimal, or `-` if there are none.
 #[derive(Clone, Copy)]
 pub(crate) struct Hex<'a>(pub(crate) &'a [u8]);
 
-impl Display for Hex<'_> {
-    fn fmt<W: fmt::Write>(&self, f: &mut fmt::Formatter<W>) -> fmt::Result {
+impl Say for Hex<'_> {
+    fn say(self, out: &mut impl Write) -> io::Result<()> {
         if self.0.is_empty() {
-            return write!(f, "-");
+            return out.write_all(b"-");
         }
-        for b in self.0 {
-            write!(f, "{b:02x}")?;
+        for part in self.0.chunks(BYTES) {
+            let mut digits = [0; 2 * BYTES];
+            let (pairs, _) = digits.as_chunks_mut::<2>();
+            for (pair, b) in pairs.iter_mut().zip(part) {
+                *pair = [DIGITS[usize::from(b / 16)], DIGITS[usize::from(b % 16)]];
+            }
+            let n = (2 * part.len()).min(digits.len());
+            out.write_all(&digits[..n])?;
         }
         Ok(())
     }
