@@ -1,7 +1,7 @@
 -- Texts laid down in a buffer, one behind the other.
 --
 --   joined_laid, joined         a text and one behind it are laid down as one
---   none_laid, part_laid        a text past the end of the buffer, and where as many of its bytes as fit are copied there
+--   none_laid, part_laid        a text at the end of the buffer or past it, and where as many of its bytes as fit are copied there
 --   front_count, front_laid     where there is room for it at the front, as many bytes are filled as a text has, and all of it stands there
 use Prim.Native.Nat.{ℕ, zero, suc, ◌+◌, ◌-◌, ◌≤◌, ◌<◌, min}
 use mathlib.Core.Path.{◌≡◌, refl, ap, sym, ◌∙◌}
@@ -42,8 +42,8 @@ module _ {a b s s' s'' : List ℕ} {n r r' : ℕ} (p : LaysText a s n r s') (q :
 pub joined : {a b : List ℕ} {x y z : Text} → Lays a x y → Lays b y z → Lays (a ++ b) x z
 joined p q = record { lent = q.lent ∙ p.lent; laid = joined_laid p.laid q.laid }
 
--- nothing is laid down past the end of the buffer
-pub none_laid : {t s : List ℕ} {n : ℕ} → length s < n → LaysText t s n n s
+-- nothing is laid down at the end of the buffer or past it
+pub none_laid : {t s : List ℕ} {n : ℕ} → length s ≤ n → LaysText t s n n s
 none_laid {t} {s} {n} h = let z : length s - n ≡ 0 = omega arith in record { count = rw z (omega arith); bytes = rw z }
 
 -- else as many bytes of the text as fit are, in place of the k that stood there

@@ -19,7 +19,7 @@ impl Text<'_> {
         ensures { Lays text.now self.old self.new }
     {
         let filled = self.filled.0;
-        if self.buffer.len() < filled {
+        if self.buffer.len() <= filled {
             return;
         }
         let n = text.len().min(self.buffer.len() - filled);
