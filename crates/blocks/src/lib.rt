@@ -111,7 +111,7 @@ fn long(block: &[u8], at: usize, rule: Rule) -> Step
         },
         Rule::Signed => match read_i64(block, Place(at)) {
             Ok((v, count)) => { Step::Number(Value::Signed(v), count, Cursor::at(at + count.0)) }
-            Err(fault) => unread(block, at, fault),
+            Err(gap) => unread(block, at, gap),
         },
     }
 }

@@ -7,12 +7,14 @@ ghost use Rattle.entries.specs.Standing.{mark, EndsAt};
 use bits::is_high_8_bit_set;
 
 // Whether a mark stands at the place. The byte before it tells whether a group can begin there.
+#[tactic(auto, using(crate::proofs::NextMarks::mark_in_front, crate::proofs::NextMarks::mark_told))]
 fn is_mark(block: &[u8], at: usize) -> bool
     requires { at < length block.now }
     ensures { Tells (GroupAt block.now at mark) result }
 {
     match &block[at..] {
-        [128, 0, ..] => at < 1 || !is_high_8_bit_set(block[at - 1]),
+        [128, 0, ..] if at < 1 => true,
+        [128, 0, ..] => !is_high_8_bit_set(block[at - 1]),
         _ => false,
     }
 }

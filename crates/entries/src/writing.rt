@@ -20,7 +20,10 @@ use words::{Count, Place, Refusal, has_room};
 fn entry_length(entry: Entry) -> Count
     ensures { Takes (entry_form entry) result }
 {
-    Count(2 + length_u64(entry.segment).0 + length_u64(entry.sentence).0 + length_i64(entry.turn).0)
+    let segment = length_u64(entry.segment).0;
+    let sentence = length_u64(entry.sentence).0;
+    let turn = length_i64(entry.turn).0;
+    Count(2 + segment + sentence + turn)
 }
 
 // These store bytes where there is room for them, and answer the place behind them.

@@ -18,7 +18,9 @@ const NESTING: u64 = 8;
 fn item(numbers: &[u64], at: usize, depth: u64) -> Option<usize>
     ensures { Passes (OneAhead depth) numbers.now at result }
 {
-    let n = *numbers.get(at)?;
+    let Some(&n) = numbers.get(at) else {
+        return None;
+    };
     let next = at + 1;
     if n % 2 == 0 {
         return Some(next);

@@ -56,7 +56,7 @@ overflow_add-at-in-Ok-read_i64 c =
 
 pub unread-requires-in-Err-read_i64 : goal.unread-requires-in-Err-read_i64
 unread-requires-in-Err-read_i64 c =
-    let w = c.in-Err-read_i64 in decided_high _ _ i64 (search rules) w.fault.0 _ (sym c.read_i64.ensures.is ∙ ap means_read w.is)
+    let w = c.in-Err-read_i64 in decided_high _ _ i64 (search rules) w.gap.0 _ (sym c.read_i64.ensures.is ∙ ap means_read w.is)
 
 pub returns-in-Ok-read_i64 : goal.returns-in-Ok-read_i64
 returns-in-Ok-read_i64 c =
