@@ -8,6 +8,7 @@ use entries::{Entry, ReadEntry};
 use groups::Value;
 use lists::{NotRead, Numbers};
 use slips::{Range, Setting};
+use std::fmt::Display;
 use std::io::{self, Print};
 use words::{Count, Fault, Place, Refusal};
 
@@ -227,7 +228,27 @@ fn show(out: &impl Print) -> io::Result<()> {
     show_entries(out)
 }
 
+// Where a line can't be written, there is nowhere to say so: the next one is tried.
+#[derive(Clone, Copy)]
+struct Onward<'a, P: Print>(&'a P);
+
+impl<P: Print> Print for Onward<'_, P> {
+    fn print<D: Display + Drop>(&self, value: D) -> io::Result<()> {
+        let _ = self.0.print(value);
+        Ok(())
+    }
+
+    fn println<D: Display + Drop>(&self, value: D) -> io::Result<()> {
+        let _ = self.0.println(value);
+        Ok(())
+    }
+
+    fn write_all(&self, bytes: &[u8]) -> io::Result<()> {
+        let _ = self.0.write_all(bytes);
+        Ok(())
+    }
+}
+
 fn main(rt: HostRuntime) {
-    // Where standard output can't be written, there is nowhere to say so.
-    let _ = show(&rt);
+    let _ = show(&Onward(&rt));
 }
