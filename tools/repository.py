@@ -280,7 +280,7 @@ def tried(edit, all_functions):
                 todo += [g for g in own if not g.public and g.name.split("::")[-1] in f.calls]
         if lines["file"].startswith("src/"):
             at = read(path).find(lines["old"])
-            constant = next((m[1] for m in re.finditer(r"\b(?:const|static) (\w+)[^;]*;[^;]*;", read(path)) if m.start() <= at < m.end()), None)
+            constant = next((m[1] for m in re.finditer(r"\b(?:const|static) (\w+)(?:\[[^]]*\]|[^;])*;", read(path)) if m.start() <= at < m.end()), None)
             hit = any((f.path == path and f.start <= at <= f.end) or (constant and re.search(rf"\b{constant}\b", f.body)) for f in inside)
         else:
             own_names = declarations(path)[0]

@@ -21,7 +21,8 @@ fn behind(b: u8, read: Result<(u64, Count), Fault>, next: usize) -> Result<(u64,
         return Err(Fault(Refusal::NotShortest, Place(next)));
     }
     let low = take_low_7_bits(b as u64) as u64;
-    Ok((128 * v + low, Count(count.0 + 1)))
+    let n = count.0;
+    Ok((128 * v + low, Count(n + 1)))
 }
 
 // The number at the place, of at most left bytes.
