@@ -188,6 +188,7 @@ impl<E: Say> Say for Filled<'_, E> {
                 text.word(b" ");
                 text.decimal(*v);
             }
+            // All of them, since none has more than twenty digits: the lesser is what needs no proof.
             let n = text.filled.0.min(room.len());
             out.write_all(&room[..n])?;
         }
@@ -212,6 +213,7 @@ impl Say for Hex<'_> {
             for (pair, b) in pairs.iter_mut().zip(part) {
                 *pair = [DIGITS[usize::from(b / 16)], DIGITS[usize::from(b % 16)]];
             }
+            // A part has no more bytes than that; the lesser likewise.
             let n = (2 * part.len()).min(digits.len());
             out.write_all(&digits[..n])?;
         }
